@@ -129,6 +129,7 @@ other_is_leaf i no_section no_table no_tables = go (out-Item i) refl
         is_leaf (tree_data (table_trie t.value)) (ap item_trie (made (Item-F.Inline t) e) ∙ search (rules, the_lemmas))
     go (Item-F.Table t) e = absurd (no_table t (made (Item-F.Table t) e ∙ search (rules, the_lemmas)))
     go (Item-F.Section rs) e = absurd (false≢true (sym no_section ∙ ap holds_section e))
+    go (Item-F.Sections ts) e = absurd (false≢true (sym no_section ∙ ap holds_section e))
     go (Item-F.Tables b) e = absurd (no_tables b (made (Item-F.Tables b) e
         ∙ search (rules, the_lemmas)))
 

@@ -22,6 +22,7 @@ shape i x is = let whole : roll-Item (out-Item i) ≡ i = search (rules, the_lem
 abbrev pub item_standing : Item-F Item Child Table → Option Standing → Type 0
 item_standing (Item-F.Table t) o = o ≡ standing (table_trie t.value)
 item_standing (Item-F.Section rows) o = o ≡ Some (table false true false)
+item_standing (Item-F.Sections tables) o = stands_array o ≡ true
 item_standing (Item-F.Tables tables) o = stands_array o ≡ true
 item_standing _ o = o ≡ Some value
 
@@ -38,6 +39,7 @@ stands_item (Item-F.Rows z) = search (rules, the_lemmas)
 stands_item (Item-F.Inline z) = search (rules, the_lemmas)
 stands_item (Item-F.Table t) = search (rules, the_lemmas)
 stands_item (Item-F.Section rows) = search (rules, the_lemmas)
+stands_item (Item-F.Sections tables) = search (rules, the_lemmas)
 stands_item (Item-F.Tables tables) = search (rules, the_lemmas)
 
 pub standing_here : (i : Item) → item_standing (out-Item i) (standing (item_trie i))

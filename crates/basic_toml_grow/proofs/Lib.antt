@@ -35,7 +35,10 @@ pub mod ElementsLeft
 pub mod PlainArrays
 pub mod SimpleRows
 pub mod SectionTables
+pub mod PartsOfRows
 pub mod SectionsEntered
+pub mod SectionsAdded
+pub mod SectionsUnfolded
 pub mod RowsAfter
 pub mod LatestInATrie
 pub mod RowsHaveKeys

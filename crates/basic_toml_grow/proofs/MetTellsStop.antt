@@ -26,13 +26,14 @@ use Rattle.basic_toml_grow.specs.declared.item.Table.{Table, out-Table, roll-Tab
 use Rattle.basic_toml_grow.specs.declared.met.Met.{Met}
 use Rattle.basic_toml_grow.specs.declared.met.Met.TheVariants as mets
 use Rattle.basic_toml_read.specs.declared.section.Row.{Row}
-use Rattle.basic_toml_grow.specs.Item.{child_trie, table_trie, item_trie, row_trie, by_keys, by_numbers, empty_table, trie_before}
+use Rattle.basic_toml_grow.specs.Item.{child_trie, table_trie, item_trie, row_trie, rows_trie, by_keys, by_numbers, empty_table, trie_before}
 use Rattle.basic_toml_value.specs.Growth.{values_of, FindsOrAdds}
 use Rattle.basic_toml_value.specs.declared.pairs.growth.Place.{Place}
 use Rattle.basic_toml_grow.specs.RowStops.{key_at, StopsAtKey, TellsStop, TellsLast, TellsRow, TellsExtended}
 use Rattle.basic_toml_grow.proofs.KeysInATrie.{tries_of, stood_there}
 use Rattle.basic_toml_grow.proofs.ItemTries.{child_item_trie, table_entries_trie}
-use Rattle.basic_toml_grow.proofs.TablesOpened.{section_item_trie, table_item_trie, tables_trie}
+use Rattle.basic_toml_grow.specs.PlainTables.{SectionTables}
+use Rattle.basic_toml_grow.proofs.TablesOpened.{section_item_trie, sections_trie, table_item_trie, tables_trie}
 
 none_after : {A : Type 0} (xs : List A) → xs ++ [] ≡ xs
 none_after [] = refl
@@ -290,6 +291,8 @@ other_refuses c no_table = ap (mark_here dotted) (child_item_trie c) ∙ go (ite
         ∙ search (rules, the_lemmas)
     go (Item-F.Section rs) e = ap (λ i. mark_here dotted (item_trie i)) (of (Item-F.Section rs) e)
         ∙ search (rules, the_lemmas)
+    go (Item-F.Sections b) e = ap (λ i. mark_here dotted (item_trie i)) (of (Item-F.Sections b) e)
+        ∙ search (rules, the_lemmas)
     go (Item-F.Tables b) e = ap (λ i. mark_here dotted (item_trie i)) (of (Item-F.Tables b) e)
         ∙ search (rules, the_lemmas)
 
@@ -299,6 +302,13 @@ tables_stand c b is =
     tables_met c (suc (length (map table_trie b.value.0.items))) None
     (by_numbers 0 (map table_trie b.value.0.items ++ table_trie b.value.1 ∷ []))
     (child_item_trie c ∙ ap item_trie is ∙ tables_trie b)
+
+pub sections_stand : (c : Child) (b : Box SectionTables Global) → (out-Child c).item ≡ items.Sections b
+    → TellsLast (child_trie c) (mets.Header 1)
+sections_stand c b is =
+    let before = map (λ t. rows_trie t.1) b.value.0 in
+    tables_met c (suc (length before)) None (by_numbers 0 (before ++ rows_trie b.value.1.1 ∷ []))
+    (child_item_trie c ∙ ap item_trie is ∙ sections_trie b)
 
 pub section_stands : (c : Child) (rows : List Row) → (out-Child c).item ≡ items.Section rows
     → TellsLast (child_trie c) (mets.Header 1)

@@ -1,7 +1,7 @@
 -- The table that a header names, and the array of tables that it adds an element to, as contracts say it.
-use Rattle.std.proofs.Common.{◌≡◌, ℕ, ◌+◌, ◌≤◌, true, false, List, [], ◌∷◌, ◌++◌, map}
+use Rattle.std.proofs.Common.{◌≡◌, ℕ, suc, ◌+◌, ◌≤◌, true, false, List, [], ◌∷◌, ◌++◌, map, length}
 use Rattle.std.proofs.Common.{refl, ap, sym, ◌∙◌, arith, rules, option_map, Some, None, Vec, Box, Global, Result, Ok, Err}
-use Rattle.std.proofs.lemmas.List.{map-append}
+use Rattle.std.proofs.lemmas.List.{length-map, map-append}
 use Rattle.basic_toml_value.specs.Nesting.{nesting_limit}
 use Rattle.basic_toml_grammar.specs.Sections.{Rows}
 use Rattle.basic_toml_grammar.specs.Standing as standings
@@ -14,7 +14,8 @@ use Rattle.basic_toml_grow.specs.declared.item.Item.TheOpen.{Item-F, Table-F}
 use Rattle.basic_toml_grow.specs.declared.item.Item.TheViews.{out-Item, roll-Table, out-roll-Table}
 use Rattle.basic_toml_grow.specs.declared.item.Child.{Child}
 use Rattle.basic_toml_grow.specs.declared.item.Table.{Table, out-Table}
-use Rattle.basic_toml_grow.specs.Item.{item_trie, table_trie, by_keys, row_trie}
+use Rattle.basic_toml_grow.specs.Item.{item_trie, table_trie, by_keys, by_numbers, row_trie, rows_trie}
+use Rattle.basic_toml_grow.specs.PlainTables.{SectionTable, SectionTables}
 use Rattle.basic_toml_grow.specs.Rows.{EntersRows}
 use Rattle.basic_toml_grow.specs.Headers.{EntersHeader}
 use Rattle.basic_toml_grow.proofs.ItemTries.{table_entries_trie}
@@ -69,6 +70,16 @@ open_named t n rows level after r named dotted within entered =
 pub tables_trie : (tables : Box (Vec Table Global × Table) Global)
     → item_trie (Tables tables) ≡ array_of (map table_trie tables.value.0.items) (table_trie tables.value.1)
 tables_trie tables = search (rules, the_lemmas)
+
+pub sections_trie : (tables : Box SectionTables Global)
+    → item_trie (items.Sections tables) ≡ array_of (map (λ t. rows_trie t.1) tables.value.0) (rows_trie tables.value.1.1)
+sections_trie tables =
+    let before = map (λ (t : SectionTable). rows_trie t.1) tables.value.0 in
+    let made : item_trie (items.Sections tables)
+    ≡ trie (Some (standings.array (suc (length tables.value.0)))) None (by_numbers 0 (before ++ rows_trie tables.value.1.1 ∷ [])) =
+    search (rules, the_lemmas) in
+    made ∙ ap (λ n. trie (Some (standings.array (suc n))) None (by_numbers 0 (before ++ rows_trie tables.value.1.1 ∷ [])))
+    (sym (length-map tables.value.0 (λ t. rows_trie t.1)))
 
 pub table_item_trie : (t : Box Table Global) → item_trie (items.Table t) ≡ table_trie t.value
 table_item_trie t = search (rules, the_lemmas)

@@ -35,6 +35,10 @@ tree_data t = closed (bare t)
 abbrev pub row_trie : Row → List ℕ × Trie
 row_trie r = (key_of r, leaf (plain_data (out-Row r).value))
 
+-- the table of a header, by its rows
+abbrev pub rows_trie : List Row → Trie
+rows_trie rows = trie (Some (standing.table false true false)) None (by_keys (map row_trie rows))
+
 -- one level, the parts seen already
 abbrev pub item_grows : Item-F Trie Trie Trie → Trie
 item_grows (Item-F.Integer z) = leaf (Data.integer z)
@@ -48,8 +52,10 @@ item_grows (Item-F.Rows rows) = leaf (finished (plain_table rows))
 item_grows (Item-F.Array children) = leaf (Data.array (items_of (map tree_data children.items)))
 item_grows (Item-F.Inline table) = leaf (tree_data table.value)
 item_grows (Item-F.Table table) = table.value
-item_grows (Item-F.Section rows) =
-    trie (Some (standing.table false true false)) None (by_keys (map row_trie rows))
+item_grows (Item-F.Section rows) = rows_trie rows
+item_grows (Item-F.Sections tables) =
+    trie (Some (standing.array (suc (length tables.value.0)))) None
+    (by_numbers 0 (map (λ t. rows_trie t.1) tables.value.0 ++ rows_trie tables.value.1.1 ∷ []))
 item_grows (Item-F.Tables tables) =
     trie (Some (standing.array (suc (length tables.value.0.items)))) None
     (by_numbers 0 (tables.value.0.items ++ tables.value.1 ∷ []))
@@ -78,17 +84,11 @@ abbrev pub trie_before : (is_new : Bool) → Trie → Trie
 trie_before true t = nothing
 trie_before false t = t
 
--- the rows of a section, of which one header alone speaks
+-- whether it keeps the rows of sections as they were read, of each of whose tables one header alone speaks
 abbrev pub holds_section : Item-F items.Item children.Child tables.Table → Bool
 holds_section (Item-F.Section rows) = true
+holds_section (Item-F.Sections tables) = true
 holds_section _ = false
 
 abbrev pub is_section : items.Item → Bool
 is_section i = holds_section (items.out-Item i)
-
-abbrev pub rows_in : Item-F items.Item children.Child tables.Table → List Row
-rows_in (Item-F.Section rows) = rows
-rows_in _ = []
-
-abbrev pub rows_of : children.Child → List Row
-rows_of c = rows_in (items.out-Item (children.out-Child c).item)

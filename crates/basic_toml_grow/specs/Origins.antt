@@ -10,6 +10,7 @@ use Rattle.basic_toml_grammar.specs.Sections.{row}
 use Rattle.basic_toml_grammar.specs.Steps.{Step, key, number, Path, step_eq}
 use Rattle.basic_toml_read.specs.SectionView.{rows_seen}
 use Rattle.basic_toml_grow.specs.Plain.{plain_array, plain_table}
+use Rattle.basic_toml_grow.specs.PlainTables.{SectionTable}
 use Rattle.basic_toml_grow.specs.declared.item.Item.{fold-Item}
 use Rattle.basic_toml_grow.specs.declared.item.Item as items
 use Rattle.basic_toml_grow.specs.declared.item.Item.TheOpen.{Item-F, Child-F, Table-F}
@@ -147,6 +148,10 @@ abbrev mutual
   rows_origins s (row keys at v rows) =
       or_else (row_origins (texts keys) (table_origin false at s) (value_origins s at v)) (rows_origins s rows)
 
+-- the table of a header, by the number of its section and its rows
+abbrev pub section_origins : ℕ → SectionTable → Origins
+section_origins at t = entry (table_origin true at t.0) (rows_origins t.0 (rows_seen [] t.1))
+
 -- one level, the parts seen already
 abbrev pub item_from : Item-F (ℕ → ℕ → Origins) Origins Within → ℕ → ℕ → Origins
 item_from (Item-F.Integer _) at s = entry (value_origin (codes "integer") at s) no_origins
@@ -160,7 +165,10 @@ item_from (Item-F.Rows rows) at s = value_origins s at (plain_table rows)
 item_from (Item-F.Array children) at s = entry (value_origin (codes "array") at s) (at_numbers children.items)
 item_from (Item-F.Inline table) at s = entry (value_origin (codes "inline table") at s) table.value.below
 item_from (Item-F.Table table) at s = of_table at s table.value
-item_from (Item-F.Section rows) at s = entry (table_origin true at s) (rows_origins s (rows_seen [] rows))
+item_from (Item-F.Section rows) at s = section_origins at (s, rows)
+item_from (Item-F.Sections tables) at s =
+    entry (array_origin at tables.value.1.0)
+    (at_numbers (map (section_origins at) tables.value.0 ++ section_origins at tables.value.1 ∷ []))
 item_from (Item-F.Tables tables) at s =
     entry (array_origin at tables.value.1.section)
     (at_numbers (elements_within at s (tables.value.0.items ++ tables.value.1 ∷ [])))

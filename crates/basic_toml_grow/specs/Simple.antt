@@ -7,6 +7,7 @@ use Rattle.basic_toml_read.specs.declared.section.Element.{Element}
 use Rattle.basic_toml_read.specs.declared.section.Row.{Row, out-Row}
 use Rattle.basic_toml_read.specs.declared.section.Rows.{Rows, out-Rows}
 use Rattle.basic_toml_grow.specs.Plain.{key_of, is_plain}
+use Rattle.basic_toml_grow.specs.PlainTables.{SectionTable}
 use Rattle.basic_toml_grow.specs.declared.item.Item as items
 use Rattle.basic_toml_grow.specs.declared.item.Item.TheViews.{roll-Child, roll-Table}
 use Rattle.basic_toml_grow.specs.declared.item.Child.{Child}
@@ -63,3 +64,6 @@ section_table s rows = roll-Table (record {
   section = s;
   entries = entries_of s rows;
 })
+
+abbrev pub table_of : SectionTable → Table
+table_of t = section_table t.0 t.1

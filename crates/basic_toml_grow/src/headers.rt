@@ -19,6 +19,7 @@ use crate::clash::Clash;
 use crate::item::{Child, Item, Table};
 use crate::plain::are_few_simple;
 use crate::plain_items::PlainTable;
+use crate::plain_tables::PlainTables;
 use crate::rows::take_rows;
 use basic_toml_read::{Key, Rows, Section};
 use basic_toml_value::NESTING_LIMIT;
@@ -127,10 +128,12 @@ fn enter_header<'de>(
     match keys.split_first() {
         None => open(alloc, table, rows, number, level),
         Some((key, rest)) => {
-            if rest.is_empty() && !is_array {
-                enter_last(alloc, table, key, rows, number, level)
-            } else {
+            if !rest.is_empty() {
                 enter_below(alloc, table, key, rest, is_array, rows, number, level)
+            } else if is_array {
+                enter_element(alloc, table, key, rows, number, level)
+            } else {
+                enter_last(alloc, table, key, rows, number, level)
             }
         }
     }
@@ -182,6 +185,56 @@ fn enter_last<'de>(
     }
     rows.rows = kept;
     enter_at(alloc, there, place.is_new, &[], false, rows, number, level)
+}
+
+// Goes on from a table of a level by the last key of a header, which adds a table to an array of tables. Where all of
+// the array are of few simple rows, they stay as they were read.
+#[cycle(walk)]
+#[inline(never)]
+fn enter_element<'de>(
+    alloc: Global,
+    table: &mut Table<'de>,
+    key: &Key<'de>,
+    rows: &mut Rows<'de>,
+    number: usize,
+    level: usize,
+) -> Result<(), Clash>
+    requires { level ≤ nesting_limit + 2 }
+    ensures entered { EntersHeader true (rows_view rows.old) (header_texts (key.now ∷ [])) level
+        (table_trie table.old) (table_trie table.new) result }
+    ensures named { let keys = header_texts (key.now ∷ []) in
+        let met = keys_obstacle true (rows_view rows.old) keys level (table_trie table.old) in
+        IfErr result (λ clash. NamesObstacle met clash) }
+    ensures origins { let new = rows_origins number (rows_view rows.old) in
+        let keys = header_texts (key.now ∷ []) in
+        IfOk result (λ _. GrowsAlong (way true keys (table_trie table.old)) new
+        (table_within table.old).below (table_within table.new).below) }
+    ensures marks { let keys = header_texts (key.now ∷ []) in
+        IfOk result (λ _. MarksTable number (way true keys (table_trie table.old)) (table_within table.new)) }
+    ensures taken { IfOk result (λ _. NoneLeft rows.new) }
+{
+    if level + 2 > NESTING_LIMIT
+        || !rows.parents.is_empty()
+        || !are_few_simple(rows.rows.as_slice(), level + 2)
+    {
+        return enter_below(alloc, table, key, &[], true, rows, number, level);
+    }
+    let place = table.entries.enter(key.text.as_str(), |_| {
+        let rows = Vec::new(alloc);
+        Ok(Child::at(0, number, Item::Section(PlainTable { rows })))
+    })?;
+    table.passed = true;
+    table.section = number;
+    let there = table.entries.value_mut(place.position);
+    if place.is_new {
+        let tables = PlainTables::new(alloc, &mut rows.rows, number)?;
+        *there = Child::at(0, 0, Item::Sections(tables));
+        return Ok(());
+    }
+    if let Item::Sections(tables) = &mut there.item {
+        return Ok(tables.push(&mut rows.rows, number)?);
+    }
+    enter_at(alloc, there, false, &[], true, rows, number, level)
 }
 
 // Goes on from a table of a level by a key of a header, and by the keys after it.

@@ -8,6 +8,7 @@ ghost use Rattle.basic_toml_grow.specs.Item.{item_trie, child_trie, table_trie, 
 ghost use Rattle.basic_toml_grow.specs.Origins.{item_origins, child_origins, entry, no_origins, table_origin};
 
 use crate::plain_items::{PlainArray, PlainTable};
+use crate::plain_tables::PlainTables;
 use basic_toml_value::{Float, Pairs};
 use std::alloc::{AllocError, Global};
 
@@ -36,6 +37,9 @@ pub enum Item<'de> {
     /// A table that one header alone speaks of, whose rows are few and simple: as they were read. It makes no entries
     /// before another header goes on from it.
     Section(PlainTable<'de>),
+    /// An array of tables, of each of which one header alone speaks, whose rows are few and simple: as they were read.
+    /// They make no entries before another header goes on from the latest one, or rows that are not simple come.
+    Sections(Box<PlainTables<'de>>),
     /// The tables of an array of tables: those before the latest, and the latest. Their box keeps an item as small as a
     /// raw value, and an entry of the tree as large as one of a `Table`: so the `Table` takes the memory that the tree's
     /// entries gave back.

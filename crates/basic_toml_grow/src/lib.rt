@@ -18,8 +18,10 @@ mod items_left;
 mod met;
 mod plain;
 mod plain_items;
+mod plain_tables;
 mod row_clash;
 mod rows;
+mod section_rows;
 mod sections;
 mod simple;
 
@@ -29,3 +31,5 @@ pub use headers::enter_section;
 pub use item::{Child, Item, Table};
 pub use items_left::{ItemsLeft, drain};
 pub use plain_items::{PlainArray, PlainTable};
+pub use plain_tables::PlainTables;
+pub use section_rows::SectionRows;

@@ -45,6 +45,7 @@ pub(crate) fn what_is_met(there: &Child<'_>) -> Met
             }
         }
         Item::Section(_) => Met::Header(1),
+        Item::Sections(_) => Met::Header(1),
         Item::Tables(_) => Met::Header(1),
         _ => Met::Row,
     }

@@ -1,18 +1,21 @@
 //! Tables of which one header alone speaks: few simple rows stay as they were read, until another header goes on from
-//! their table.
+//! their table, or other rows come into their array.
 
-ghost use Rattle.std.specs.Prelude.{◌≡◌, false, true, IfOk};
+ghost use Rattle.std.specs.Prelude.{◌≡◌, false, true, IfOk, map};
 ghost use Rattle.basic_toml_grow.specs.declared.item.Child.{out-Child};
 ghost use Rattle.basic_toml_grow.specs.Item.{child_trie, is_section};
 ghost use Rattle.basic_toml_grow.specs.Origins.{child_origins};
+ghost use Rattle.basic_toml_grow.specs.PlainTables.{have_few_simple};
+ghost use Rattle.basic_toml_grow.specs.Simple.{table_of};
 
-use crate::item::{Child, Item};
-use crate::simple::section_table;
+use crate::item::{Child, Item, Table};
+use crate::plain_tables::PlainTables;
+use crate::simple::{first_table, section_table};
 use std::alloc::{AllocError, Global};
 use std::mem;
 
 impl<'de> Child<'de> {
-    /// Makes entries of the rows of a section, so that a header can go on from its table. Nothing else is changed.
+    /// Makes entries of the rows of sections, so that a header can go on from their tables. Nothing else is changed.
     #[inline(always)]
     pub(crate) fn unfold(&mut self, alloc: Global) -> Result<(), AllocError>
         ensures trie { IfOk result (λ _. child_trie self.new ≡ child_trie self.old) }
@@ -20,11 +23,53 @@ impl<'de> Child<'de> {
         ensures unfolded { IfOk result (λ _. is_section (out-Child self.new).item ≡ false) }
         ensures others { is_section (out-Child self.old).item ≡ false → self.new ≡ self.old }
     {
-        if let Item::Section(table) = &mut self.item {
-            let rows = mem::replace(&mut table.rows, Vec::new(alloc));
-            let table = section_table(alloc, rows, self.section)?;
-            self.item = Item::Table(table);
+        match &self.item {
+            Item::Section(_) => self.make_entries(alloc),
+            Item::Sections(_) => self.make_entries(alloc),
+            _other => Ok(()),
         }
-        Ok(())
     }
+
+    // The same, not inlined: what it needs of the stack is not taken at each level of a header.
+    #[inline(never)]
+    fn make_entries(&mut self, alloc: Global) -> Result<(), AllocError>
+        ensures trie { IfOk result (λ _. child_trie self.new ≡ child_trie self.old) }
+        ensures origins { IfOk result (λ _. child_origins self.new ≡ child_origins self.old) }
+        ensures unfolded { IfOk result (λ _. is_section (out-Child self.new).item ≡ false) }
+        ensures others { is_section (out-Child self.old).item ≡ false → self.new ≡ self.old }
+    {
+        match &mut self.item {
+            Item::Section(table) => {
+                let rows = mem::replace(&mut table.rows, Vec::new(alloc));
+                let table = section_table(alloc, rows, self.section)?;
+                self.item = Item::Table(table);
+                Ok(())
+            }
+            Item::Sections(tables) => {
+                let tables = tables_of(alloc, tables)?;
+                self.item = Item::Tables(tables);
+                Ok(())
+            }
+            _other => Ok(()),
+        }
+    }
+}
+
+// The tables that the rows of an array stand for. No row is left in it.
+#[inline(never)]
+fn tables_of<'de>(
+    alloc: Global,
+    tables: &mut PlainTables<'de>,
+) -> Result<Box<(Vec<Table<'de>>, Table<'de>)>, AllocError>
+    ensures earlier { IfOk result (λ made. made.value.0.items ≡ map table_of tables.old.0) }
+    ensures latest { IfOk result (λ made. made.value.1 ≡ table_of tables.old.1) }
+    ensures simple { IfOk result (λ _. have_few_simple tables.old ≡ true) }
+{
+    let (mut rows, sections, last) = tables.take(alloc).into_parts();
+    let mut earlier = Vec::with_capacity(alloc, sections.len())?;
+    for own in sections {
+        earlier.push_reserved(first_table(alloc, &mut rows, own)?);
+    }
+    let latest = first_table(alloc, &mut rows, last)?;
+    Ok(Box::new(alloc, (earlier, latest))?)
 }

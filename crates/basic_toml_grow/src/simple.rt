@@ -13,6 +13,7 @@ use crate::item::{Child, Item, Table};
 use crate::items_left::{ItemsLeft, drain};
 use crate::plain::is_plain;
 use crate::plain_items::{PlainArray, PlainTable};
+use crate::section_rows::SectionRows;
 use basic_toml_index::{Index, Texts};
 use basic_toml_read::{Raw, Row};
 use basic_toml_value::{Pair, Pairs, Text};
@@ -123,19 +124,36 @@ pub(crate) fn section_table<'de>(
     requires { few_simple 0 rows.items ≡ true }
     ensures { IfOk result (λ table. table.value ≡ table_of_section section rows.entry.items) }
 {
-    let count = rows.len();
-    let entries = entries_of(alloc, &mut drain(rows), section, count)?;
-    let entries = Pairs::from_parts(entries, Index::none());
-    Ok(Box::new(
-        alloc,
-        Table {
-            passed: false,
-            named: true,
-            dotted: false,
-            section,
-            entries,
-        },
-    )?)
+    let own = SectionRows {
+        section,
+        start: 0,
+        count: rows.len(),
+    };
+    let table = first_table(alloc, &mut drain(rows), own)?;
+    Ok(Box::new(alloc, table)?)
+}
+
+/// The table that the first of the rows that are left stand for, which are those of one header.
+#[inline(always)]
+pub(crate) fn first_table<'de>(
+    alloc: Global,
+    rows: &mut ItemsLeft<Row<'de>>,
+    own: SectionRows,
+) -> Result<Table<'de>, AllocError>
+    requires within { own.count ≤ length rows.old }
+    requires plain { all_plain 0 rows.old ≡ true }
+    requires simple { few_simple 0 (take own.count rows.old) ≡ true }
+    ensures table { IfOk result (λ table. table ≡ table_of_section own.section (take own.count rows.old)) }
+    ensures left { IfOk result (λ _. rows.new ≡ drop own.count rows.old) }
+{
+    let entries = entries_of(alloc, rows, own.section, own.count)?;
+    Ok(Table {
+        passed: false,
+        named: true,
+        dotted: false,
+        section: own.section,
+        entries: Pairs::from_parts(entries, Index::none()),
+    })
 }
 
 /// The keys of rows.

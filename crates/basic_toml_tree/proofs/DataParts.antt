@@ -6,6 +6,8 @@ use Rattle.basic_toml_value.specs.Data.{Data, Items, item, no_items, items_of, M
 use Rattle.basic_toml_value.specs.View.{view}
 use Rattle.basic_toml_value.specs.declared.value.Value as values
 use Rattle.basic_toml_value.proofs.Sizes.{data_size, items_size, members_size}
+use Rattle.basic_toml_grow.specs.PlainTables.{SectionTables, tables_in}
+use Rattle.basic_toml_tree.specs.Data.{section_data, sections_data}
 
 some_size : (members : Members) → 2 ≤ members_size members
 some_size no_members = omega arith
@@ -72,3 +74,11 @@ module _ {A B D : Type 0} (f : A → D) (g : B → D) where
 pub array_seen : (elements : Vec values.Value Global)
     → view (values.Array elements) ≡ Data.array (items_of (map view elements.items))
 array_seen elements = search (rules, values.the_lemmas)
+
+-- what an array is seen as that has the tables of sections
+pub sections_seen : (elements : Vec values.Value Global) (tables : SectionTables)
+    → map view elements.items ≡ map (λ t. section_data t.1) (tables_in tables)
+    → view (values.Array elements) ≡ sections_data tables
+sections_seen elements tables same =
+    array_seen elements
+    ∙ ap (λ ds. Data.array (items_of ds)) (same ∙ map-append (λ t. section_data t.1) tables.0 (tables.1 ∷ []))

@@ -17,12 +17,13 @@ use Rattle.basic_toml_read.specs.declared.section.Element.{Element}
 use Rattle.basic_toml_read.specs.declared.section.Row.{Row}
 use Rattle.basic_toml_read.specs.SectionView.{elements_view}
 use Rattle.basic_toml_grow.specs.Plain.{plain_array, element_data, rows_data}
-use Rattle.basic_toml_grow.specs.declared.item.Item.{the_lemmas, Array, Inline, Plain, Rows, Tables}
+use Rattle.basic_toml_grow.specs.PlainTables.{SectionTables}
+use Rattle.basic_toml_grow.specs.declared.item.Item.{the_lemmas, Array, Inline, Plain, Rows, Sections, Tables}
 use Rattle.basic_toml_grow.specs.declared.item.Item as Item
 use Rattle.basic_toml_grow.specs.declared.item.Child.{Child, out-Child}
 use Rattle.basic_toml_grow.specs.declared.item.Table.{Table, out-Table}
 use Rattle.basic_toml_tree.specs.Nodes.{data_among, data_at}
-use Rattle.basic_toml_tree.specs.Data.{data_of, child_data, table_data, child_pair, value_pair, HoldsAny}
+use Rattle.basic_toml_tree.specs.Data.{data_of, child_data, table_data, sections_data, child_pair, value_pair, HoldsAny}
 
 -- the data of a child is that of its item
 pub child_item : (c : Child) → child_data c ≡ data_of (out-Child c).item
@@ -98,6 +99,9 @@ pub tables_data : (tables : Box (Vec Table Global × Table) Global)
     → data_of (Tables tables)
     ≡ Data.array (items_of (map table_data tables.value.0.items ++ table_data tables.value.1 ∷ []))
 tables_data tables = search (rules, the_lemmas)
+
+pub sections_item : (tables : Box SectionTables Global) → data_of (Sections tables) ≡ sections_data tables.value
+sections_item tables = search (rules, the_lemmas)
 
 -- what a value of a table is seen as
 pub table_seen : (pairs : List (List ℕ × values.Value)) → view (values.Table pairs) ≡ Data.table (entries pairs)

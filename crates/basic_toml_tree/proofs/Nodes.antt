@@ -2,6 +2,7 @@
 pub mod NodesInOrder
 pub mod NodesStand
 pub mod NodesCome
+pub mod TablesStand
 pub mod PlainNodes
 pub mod MadeNodes
 pub mod RowNodesTold

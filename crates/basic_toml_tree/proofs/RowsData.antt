@@ -9,9 +9,10 @@ use Rattle.basic_toml_index.specs.Index.{IsIndex, few}
 use Rattle.basic_toml_index.specs.Keys.{is_among, are_distinct}
 use Rattle.basic_toml_index.specs.declared.Index.{Index}
 use Rattle.basic_toml_value.specs.Data.{Data, no_members, members_of}
-use Rattle.basic_toml_value.specs.Entries.{texts_of}
+use Rattle.basic_toml_value.specs.Entries.{seen, texts_of}
+use Rattle.basic_toml_value.specs.View.{view, entries}
 use Rattle.basic_toml_value.specs.declared.pairs.Pair.{Pair}
-use Rattle.basic_toml_value.specs.declared.value.Value.{Value}
+use Rattle.basic_toml_value.specs.declared.value.Value.{Value, Table}
 use Rattle.basic_toml_grammar.specs.Entering.{and_then}
 use Rattle.basic_toml_grammar.specs.Marks.{valued}
 use Rattle.basic_toml_grammar.specs.Mentions.{finished}
@@ -28,8 +29,8 @@ use Rattle.basic_toml_grow.proofs.PlainSeen.{inline_of}
 use Rattle.basic_toml_grow.proofs.PlainValues.{all_simple}
 use Rattle.basic_toml_grow.proofs.RowsHaveKeys.{rows_are_keyed}
 use Rattle.basic_toml_grow.proofs.SimpleKeys.{first_is_simple, keys_differ}
-use Rattle.basic_toml_tree.specs.Data.{row_pair, value_pair, HoldsAny}
-use Rattle.basic_toml_tree.proofs.ItemData.{value_keys, members_same}
+use Rattle.basic_toml_tree.specs.Data.{row_pair, section_data, value_pair, HoldsAny}
+use Rattle.basic_toml_tree.proofs.ItemData.{entries_seen, members_same, table_seen, value_keys}
 use Rattle.basic_toml_tree.proofs.TrieData.{keys_data, rows_agree}
 
 -- what stands at a key that none of the rows has is left as it is
@@ -96,6 +97,15 @@ few_indexed copies rows index none simple same =
     let at_most : length rows ≤ few = grind (arith, p.0) in
     none (texts_of copies) (ap are_distinct keys ∙ keys_differ 0 rows p.1)
     (omega (arith, ap length keys, length-map rows key_of, at_most))
+
+-- and what the table of them is seen as
+pub values_seen : (table : List (List ℕ × Value)) (copies : List (Pair Value)) (rows : List Row) → table ≡ seen copies
+    → map value_pair copies ≡ map row_pair rows → view (Table table) ≡ section_data rows
+values_seen table copies rows is same =
+    table_seen table
+    ∙ ap (λ ps. Data.table (entries ps)) is
+    ∙ ap Data.table (entries_seen copies)
+    ∙ ap (λ ps. Data.table (members_of ps)) same
 
 -- where memory is refused to a table of rows, it has one
 no_member : (rows : List Row) → members_of (map row_pair rows) ≡ no_members → (length rows == 0) ≡ true

@@ -17,8 +17,9 @@ use Rattle.basic_toml_grow.specs.declared.item.Item.TheFolds.{map-Table}
 use Rattle.basic_toml_grow.specs.declared.item.Child.{Child}
 use Rattle.basic_toml_grow.specs.declared.item.Table.{Table}
 use Rattle.basic_toml_grow.specs.Item.{item_trie, child_trie, table_trie, tree_data, leaf, by_keys, by_numbers}
-use Rattle.basic_toml_grow.specs.Item.{row_trie}
-use Rattle.basic_toml_tree.specs.Data.{data_of, child_data, table_data, row_pair}
+use Rattle.basic_toml_grow.specs.Item.{row_trie, rows_trie}
+use Rattle.basic_toml_grow.specs.PlainTables.{SectionTable}
+use Rattle.basic_toml_tree.specs.Data.{data_of, child_data, table_data, row_pair, section_data, sections_data}
 
 -- the data at keys and at numbers
 members_keys : (ps : List (List ℕ × Trie))
@@ -41,6 +42,12 @@ numbers_data : (s : Option Standing) (n : ℕ) (before : List Trie) (t : Trie)
     ≡ Data.array (items_of (map tree_data (before ++ t ∷ [])))
 numbers_data s n [] t = refl
 numbers_data s n (b ∷ before) t = ap Data.array (items_numbers n (b ∷ (before ++ t ∷ [])))
+
+numbers_agree : (s : Option Standing) (ts : List Trie) (t : Trie) (ds : List Data) (d : Data) → map tree_data ts ≡ ds
+    → tree_data t ≡ d → tree_data (trie s None (by_numbers 0 (ts ++ t ∷ []))) ≡ Data.array (items_of (ds ++ d ∷ []))
+numbers_agree s ts t ds d before latest =
+    numbers_data s 0 ts t
+    ∙ ap (λ ds. Data.array (items_of ds)) (map-append tree_data ts (t ∷ []) ∙ rw (before, latest) refl)
 
 -- what is to be shown of an item, a child and a table
 abbrev OfItem : Item → Type 0
@@ -79,6 +86,15 @@ pub rows_agree : (rs : List Row)
 rows_agree [] = refl
 rows_agree (r ∷ rs) = ap (λ ps. row_pair r ∷ ps) (rows_agree rs)
 
+section_agrees : (rows : List Row) → tree_data (rows_trie rows) ≡ section_data rows
+section_agrees rows =
+    keys_data (Some (table false true false)) (map row_trie rows) ∙ ap (λ ps. Data.table (members_of ps)) (rows_agree rows)
+
+sections_agree : (ts : List SectionTable)
+    → map tree_data (map (λ t. rows_trie t.1) ts) ≡ map (λ t. section_data t.1) ts
+sections_agree [] = refl
+sections_agree (t ∷ ts) = rw (section_agrees t.1, sections_agree ts) refl
+
 -- that the parts of an item agree
 abbrev Agree : Item-F Item Child Table → Type 0
 Agree (Item-F.Array children) =
@@ -105,12 +121,9 @@ item_agrees (Item-F.Array children) agree =
 item_agrees (Item-F.Plain es) agree = search (rules, the_lemmas)
 item_agrees (Item-F.Rows rs) agree = search (rules, the_lemmas)
 item_agrees (Item-F.Section rs) agree =
-    let s : Option Standing = Some (table false true false) in
-    let a : item_trie (roll-Item (Item-F.Section rs))
-    ≡ trie (Some (table false true false)) None (by_keys (map row_trie rs)) = search (rules, the_lemmas) in
-    let b : data_of (roll-Item (Item-F.Section rs)) ≡ Data.table (members_of (map row_pair rs)) =
-    search (rules, the_lemmas) in
-    ap tree_data a ∙ keys_data s (map row_trie rs) ∙ ap (λ ps. Data.table (members_of ps)) (rows_agree rs) ∙ sym b
+    let a : item_trie (roll-Item (Item-F.Section rs)) ≡ rows_trie rs = search (rules, the_lemmas) in
+    let b : data_of (roll-Item (Item-F.Section rs)) ≡ section_data rs = search (rules, the_lemmas) in
+    ap tree_data a ∙ section_agrees rs ∙ sym b
 item_agrees (Item-F.Inline t) agree =
     let a : item_trie (roll-Item (Item-F.Inline t)) ≡ leaf (tree_data (table_trie t.value)) =
     search (rules, the_lemmas) in
@@ -129,11 +142,21 @@ item_agrees (Item-F.Tables tables) agree =
     let b : data_of (roll-Item (Item-F.Tables tables))
     ≡ Data.array (items_of (map table_data tables.value.0.items ++ table_data tables.value.1 ∷ [])) =
     search (rules, the_lemmas) in
-    let both : map tree_data (map table_trie tables.value.0.items) ++ tree_data (table_trie tables.value.1) ∷ []
-    ≡ map table_data tables.value.0.items ++ table_data tables.value.1 ∷ [] = rw (agree.0, agree.1) refl in
     ap tree_data a
-    ∙ numbers_data s 0 ts (table_trie tables.value.1)
-    ∙ ap (λ ds. Data.array (items_of ds)) (map-append tree_data ts (table_trie tables.value.1 ∷ []) ∙ both)
+    ∙ numbers_agree s ts (table_trie tables.value.1) (map table_data tables.value.0.items) (table_data tables.value.1)
+    agree.0 agree.1
+    ∙ sym b
+item_agrees (Item-F.Sections tables) agree =
+    let ts = map (λ t. rows_trie t.1) tables.value.0 in
+    let s : Option Standing = Some (array (suc (length tables.value.0))) in
+    let a : item_trie (roll-Item (Item-F.Sections tables))
+    ≡ trie (Some (array (suc (length tables.value.0)))) None
+    (by_numbers 0 (map (λ t. rows_trie t.1) tables.value.0 ++ rows_trie tables.value.1.1 ∷ [])) =
+    search (rules, the_lemmas) in
+    let b : data_of (roll-Item (Item-F.Sections tables)) ≡ sections_data tables.value = search (rules, the_lemmas) in
+    ap tree_data a
+    ∙ numbers_agree s ts (rows_trie tables.value.1.1) (map (λ t. section_data t.1) tables.value.0)
+    (section_data tables.value.1.1) (sections_agree tables.value.0) (section_agrees tables.value.1.1)
     ∙ sym b
 
 child_agrees : (x : Child-F Item Child Table) → OfItem x.item → OfChild (roll-Child x)
@@ -176,6 +199,7 @@ parts_agree (Item-F.Array es) = children_agree es.items
 parts_agree (Item-F.Plain es) = tt
 parts_agree (Item-F.Rows rs) = tt
 parts_agree (Item-F.Section rs) = tt
+parts_agree (Item-F.Sections tables) = tt
 parts_agree (Item-F.Inline e) = e.value.1
 parts_agree (Item-F.Table e) = e.value.1
 parts_agree (Item-F.Tables e) = (tables_agree e.value.0.items, e.value.1.1)

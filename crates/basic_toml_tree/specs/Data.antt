@@ -8,6 +8,7 @@ use Rattle.basic_toml_value.specs.declared.value.Value.{Value}
 use Rattle.basic_toml_grammar.specs.Mentions.{finished}
 use Rattle.basic_toml_read.specs.declared.section.Row.{Row, out-Row}
 use Rattle.basic_toml_grow.specs.Plain.{plain_array, plain_data, rows_data, key_of}
+use Rattle.basic_toml_grow.specs.PlainTables.{SectionTables}
 use Rattle.basic_toml_grow.specs.declared.item.Item.{fold-Item}
 use Rattle.basic_toml_grow.specs.declared.item.Item as items
 use Rattle.basic_toml_grow.specs.declared.item.Item.TheOpen.{Item-F, Child-F, Table-F}
@@ -19,6 +20,13 @@ use Rattle.basic_toml_grow.specs.declared.item.Table.{fold-Table}
 -- the key of a row with the data of its plain value
 abbrev pub row_pair : Row → List ℕ × Data
 row_pair r = (key_of r, plain_data (out-Row r).value)
+
+-- the table of a header, by its rows
+abbrev pub section_data : List Row → Data
+section_data rows = Data.table (members_of (map row_pair rows))
+
+abbrev pub sections_data : SectionTables → Data
+sections_data ts = Data.array (items_of (map (λ t. section_data t.1) ts.0 ++ section_data ts.1.1 ∷ []))
 
 -- one level, the parts seen already
 abbrev pub item_step : Item-F Data Data Data → Data
@@ -33,7 +41,8 @@ item_step (Item-F.Rows rows) = rows_data rows
 item_step (Item-F.Array children) = Data.array (items_of children.items)
 item_step (Item-F.Inline table) = table.value
 item_step (Item-F.Table table) = table.value
-item_step (Item-F.Section rows) = Data.table (members_of (map row_pair rows))
+item_step (Item-F.Section rows) = section_data rows
+item_step (Item-F.Sections tables) = sections_data tables.value
 item_step (Item-F.Tables tables) =
     Data.array (items_of (tables.value.0.items ++ tables.value.1 ∷ []))
 

@@ -30,6 +30,7 @@ table_is_made table = (out-Table table).passed || (out-Table table).named
 
 abbrev pub holds_tables : Item-F Item Child Table → Bool
 holds_tables (Item-F.Tables _) = true
+holds_tables (Item-F.Sections _) = true
 holds_tables _ = false
 
 -- whether headers made what stands here; the root, to which no key leads, always
@@ -44,6 +45,7 @@ is_made node = spot_is_made node.count node.spot
 -- the section whose header is the latest that leads to what headers made here
 abbrev pub item_section : Item-F Item Child Table → Option ℕ
 item_section (Item-F.Tables tables) = Some (out-Table tables.value.1).section
+item_section (Item-F.Sections tables) = Some tables.value.1.0
 item_section _ = None
 
 abbrev pub spot_section : Spot → Option ℕ
@@ -55,6 +57,7 @@ spot_section (spots.Plain plain) = None
 -- what a node is found by again in the section list of its text
 abbrev pub item_anchor : Item-F Item Child Table → ℕ → ℕ → Anchor
 item_anchor (Item-F.Tables tables) start keys = anchors.Array (out-Table tables.value.1).section keys
+item_anchor (Item-F.Sections tables) start keys = anchors.Array tables.value.1.0 keys
 item_anchor _ start keys = anchors.Value start keys
 
 abbrev pub spot_anchor : Spot → ℕ → ℕ → Anchor
@@ -84,6 +87,7 @@ item_name (Item-F.Array _) = codes "array"
 item_name (Item-F.Inline _) = codes "inline table"
 item_name (Item-F.Table _) = codes "dotted table"
 item_name (Item-F.Section _) = codes "dotted table"
+item_name (Item-F.Sections _) = codes "array"
 item_name (Item-F.Tables _) = codes "array"
 
 abbrev pub spot_name : ℕ → Spot → List ℕ

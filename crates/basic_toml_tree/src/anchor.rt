@@ -39,11 +39,15 @@ impl<'t, 'de> Spot<'t, 'de> {
                 keys,
             },
             Spot::Table(HeaderTable::Section(table)) => Anchor::Table {
-                section: table.child.section,
+                section: table.section,
                 keys,
             },
             Spot::Item(Item::Tables(tables)) => Anchor::Array {
                 section: tables.1.section,
+                keys,
+            },
+            Spot::Item(Item::Sections(tables)) => Anchor::Array {
+                section: tables.section(),
                 keys,
             },
             _ => Anchor::Value { start, keys },

@@ -19,12 +19,15 @@ ghost use Rattle.basic_toml_tree.specs.Nodes.{elements_in, entries_in, elements_
 ghost use Rattle.basic_toml_tree.specs.Origin.{is_borrowed, is_made, name_of, start_of, outer_of, offset_of, keys_of as key_path_of};
 ghost use Rattle.basic_toml_tree.specs.Stands.{IsNodeAt, Foretold, ForetoldSlice};
 ghost use Rattle.basic_toml_tree.specs.Stands.{HoldsFields, IsBeside, IsTableBeside, AtKey, AtNumber, BeginsIn};
+ghost use Rattle.basic_toml_tree.specs.declared.spot.Spot.TheVariants as spots;
+ghost use Rattle.basic_toml_tree.specs.declared.spot.HeaderTable.TheVariants as header_tables;
 ghost use Rattle.basic_toml_tree.specs.Stands.{ComesFrom, IsPlainElement, IsRowAt};
 ghost use Rattle.basic_toml_grow.specs.Origins.{child_origins};
 
 use crate::entries::{Elements, Entries};
 use crate::plain::{plain_table, plain_value};
 use crate::plain_value::PlainValue;
+use crate::section_table::SectionTable;
 use crate::spot::{Fields, HeaderTable, Kind, Spot};
 use crate::trail::Trail;
 use crate::tree::Tree;
@@ -115,7 +118,7 @@ impl<'t, 'de> Node<'t, 'de> {
         match self.spot {
             Spot::Table(HeaderTable::Entries(table)) => Some(Fields::Table(table)),
             Spot::Table(HeaderTable::Section(table)) => {
-                Some(Fields::Section(table.rows(), table.child.section))
+                Some(Fields::Section(table.rows, table.section))
             }
             Spot::Item(item) => match item {
                 Item::Rows(table) => Some(Fields::Rows(table.rows())),
@@ -162,6 +165,16 @@ impl<'t, 'de> Node<'t, 'de> {
         }
     }
 
+    fn section_element(self, table: SectionTable<'t, 'de>) -> Node<'t, 'de>
+        ensures beside { IsBeside self.entry (spots.Table (header_tables.Section table.entry)) result }
+        ensures start { result.start ≡ self.entry.start }
+    {
+        Node {
+            spot: Spot::Table(HeaderTable::Section(table)),
+            ..self
+        }
+    }
+
     // A node of plain elements, which are those of this array.
     fn plain_element(self, elements: &'t [Element<'de>], at: usize) -> Option<Node<'t, 'de>>
         requires { are_plain 0 elements.now ≡ true }
@@ -202,6 +215,16 @@ impl<'t, 'de> Node<'t, 'de> {
                             None
                         }
                     }
+                }
+            }
+            Spot::Item(Item::Sections(tables)) => {
+                // Their number fits, so that of each is lower than the highest.
+                let _count = tables.len();
+                match tables.get(at) {
+                    Some((section, rows)) => {
+                        Some(self.section_element(SectionTable { rows, section }))
+                    }
+                    None => None,
                 }
             }
             Spot::Item(Item::Plain(array)) => self.plain_element(array.elements(), at),
@@ -283,7 +306,7 @@ impl<'t, 'de> Node<'t, 'de> {
         match self.spot {
             Spot::Table(HeaderTable::Entries(table)) => Ok(Value::Table(table_of(alloc, table)?)),
             Spot::Table(HeaderTable::Section(table)) => {
-                Ok(Value::Table(plain_table(alloc, table.rows())?))
+                Ok(Value::Table(plain_table(alloc, table.rows)?))
             }
             Spot::Item(item) => Ok(value_of(alloc, item)?),
             Spot::Plain(plain) => Ok(plain_value(alloc, plain.value)?),

@@ -1,12 +1,14 @@
 //! The values that plain ones become, which a tree keeps as they were read: scalars, arrays and inline tables.
 
-ghost use Rattle.std.specs.Prelude.{◌≡◌, true, IfErr, IfOk, map};
+ghost use Rattle.std.specs.Prelude.{◌≡◌, ◌≤◌, true, IfErr, IfOk, map, length, take, drop};
 ghost use Rattle.basic_toml_value.specs.Data.{table as table_of_members};
 ghost use Rattle.basic_toml_value.specs.View.{view, entries};
 ghost use Rattle.basic_toml_grow.specs.Plain.{is_plain, are_plain, are_few_simple, plain_data, element_data, rows_data};
-ghost use Rattle.basic_toml_tree.specs.Data.{value_pair, row_pair, HoldsAny};
+ghost use Rattle.basic_toml_grow.specs.PlainTables.{tables_in};
+ghost use Rattle.basic_toml_grow.specs.Simple.{are_all_plain as all_plain};
+ghost use Rattle.basic_toml_tree.specs.Data.{value_pair, row_pair, section_data, HoldsAny};
 
-use basic_toml_grow::drain;
+use basic_toml_grow::{ItemsLeft, PlainTables, drain};
 use basic_toml_index::Index;
 use basic_toml_read::{Element, Raw, Row};
 use basic_toml_value::{Pair, Pairs, Table, Text, Value};
@@ -81,6 +83,28 @@ pub(crate) fn plain_table(alloc: Global, rows: &[Row<'_>]) -> Result<Table, Allo
     Ok(Pairs::from_parts(copies, Index::none()))
 }
 
+/// Copies of the tables of an array of tables.
+///
+/// # Errors
+///
+/// `AllocError` where memory was refused.
+pub(crate) fn plain_tables(
+    alloc: Global,
+    tables: &PlainTables<'_>,
+) -> Result<Vec<Value>, AllocError>
+    ensures { IfOk result (λ copies. map view copies.items ≡ map (λ t. section_data t.1) (tables_in tables.now)) }
+{
+    let count = tables.len();
+    let mut copies = Vec::with_capacity(alloc, count)?;
+    for at in 0..count {
+        let Some((_, rows)) = tables.get(at) else {
+            unreachable!();
+        };
+        copies.push_reserved(Value::Table(plain_table(alloc, rows)?));
+    }
+    Ok(copies)
+}
+
 // The value that a plain one becomes. It is inlined, since most elements are scalars.
 #[cycle(moves)]
 #[inline(always)]
@@ -136,6 +160,55 @@ fn into_many(alloc: Global, elements: Vec<Element<'_>>) -> Result<Vec<Value>, Al
     for element in drain(elements) {
         moved.push_reserved(into_plain_value(alloc, element.value)?);
     }
+    Ok(moved)
+}
+
+// The entries that the first of the rows that are left become.
+#[inline(always)]
+fn first_plain_entries(
+    alloc: Global,
+    rows: &mut ItemsLeft<Row<'_>>,
+    count: usize,
+) -> Result<Vec<Pair<Value>>, AllocError>
+    requires within { count ≤ length rows.old }
+    requires plain { all_plain 0 rows.old ≡ true }
+    ensures entries { IfOk result (λ moved. map value_pair moved.items ≡ map row_pair (take count rows.old)) }
+    ensures left { IfOk result (λ _. rows.new ≡ drop count rows.old) }
+{
+    let mut moved = Vec::with_capacity(alloc, count)?;
+    for _ in 0..count {
+        let Some(row) = rows.next() else {
+            unreachable!();
+        };
+        let Row { key, value, .. } = row;
+        let value = into_plain_value(alloc, value)?;
+        let key = Text::from_str(alloc, key.as_str())?;
+        moved.push_reserved(Pair { key, value });
+    }
+    Ok(moved)
+}
+
+/// The values that the tables of an array of tables become. Strings are moved, and memory is given back on the way.
+///
+/// # Errors
+///
+/// `AllocError` where memory was refused.
+#[inline(never)]
+pub(crate) fn into_plain_tables(
+    alloc: Global,
+    tables: Box<PlainTables<'_>>,
+) -> Result<Vec<Value>, AllocError>
+    ensures { IfOk result (λ moved. map view moved.items
+        ≡ map (λ t. section_data t.1) (tables_in tables.entry.value)) }
+{
+    let (mut rows, earlier, latest) = Box::into_inner(tables).into_parts();
+    let mut moved = Vec::with_capacity(alloc, earlier.len().saturating_add(1))?;
+    for own in earlier {
+        let entries = first_plain_entries(alloc, &mut rows, own.count)?;
+        moved.push_reserved(Value::Table(Pairs::from_parts(entries, Index::none())));
+    }
+    let entries = first_plain_entries(alloc, &mut rows, latest.count)?;
+    moved.push_reserved(Value::Table(Pairs::from_parts(entries, Index::none())));
     Ok(moved)
 }
 

@@ -68,9 +68,10 @@ impl<'t, 'de> Spot<'t, 'de> {
         match &child.item {
             Item::Table(table) => Spot::Table(HeaderTable::Entries(table)),
             Item::Section(table) => {
-                // As few and simple rows they stand for entries.
-                let _rows = table.rows();
-                Spot::Table(HeaderTable::Section(SectionTable { child }))
+                Spot::Table(HeaderTable::Section(SectionTable {
+                    rows: table.rows(),
+                    section: child.section,
+                }))
             }
             item => Spot::Item(item),
         }
@@ -90,7 +91,8 @@ impl<'t, 'de> Spot<'t, 'de> {
                 Item::False => Kind::Boolean(false),
                 Item::String(text) => Kind::Slice(text),
                 Item::Escaped(text) => Kind::Copy(text.as_str()),
-                Item::Plain(_) | Item::Array(_) | Item::Tables(_) => Kind::Array,
+                Item::Plain(_) | Item::Array(_) => Kind::Array,
+                Item::Tables(_) | Item::Sections(_) => Kind::Array,
                 Item::Rows(_) | Item::Inline(_) => Kind::Table,
                 Item::Table(_) | Item::Section(_) => Kind::Table,
             },
@@ -115,7 +117,7 @@ impl<'t, 'de> Spot<'t, 'de> {
         match self {
             Spot::Table(HeaderTable::Entries(table)) => count == 0 || table.is_made(),
             Spot::Table(HeaderTable::Section(_)) => true,
-            Spot::Item(Item::Tables(_)) => true,
+            Spot::Item(Item::Tables(_) | Item::Sections(_)) => true,
             _ => false,
         }
     }
@@ -126,8 +128,9 @@ impl<'t, 'de> Spot<'t, 'de> {
     {
         match self {
             Spot::Table(HeaderTable::Entries(table)) if table.is_made() => Some(table.section),
-            Spot::Table(HeaderTable::Section(table)) => Some(table.child.section),
+            Spot::Table(HeaderTable::Section(table)) => Some(table.section),
             Spot::Item(Item::Tables(tables)) => Some(tables.1.section),
+            Spot::Item(Item::Sections(tables)) => Some(tables.section()),
             _ => None,
         }
     }
@@ -152,7 +155,7 @@ impl<'t, 'de> Spot<'t, 'de> {
                 Item::Plain(_) | Item::Array(_) => "array",
                 Item::Rows(_) | Item::Inline(_) => "inline table",
                 Item::Table(_) | Item::Section(_) => "dotted table",
-                Item::Tables(_) => "array",
+                Item::Tables(_) | Item::Sections(_) => "array",
             },
             Spot::Plain(plain) => match plain.value {
                 Raw::Integer(_) => "integer",

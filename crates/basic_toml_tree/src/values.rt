@@ -2,11 +2,13 @@
 ghost use Rattle.std.specs.Prelude.{◌≡◌, IfErr, IfOk, map};
 ghost use Rattle.basic_toml_value.specs.Data.{table as table_of_members};
 ghost use Rattle.basic_toml_value.specs.View.{view, entries};
-ghost use Rattle.basic_toml_grow.specs.declared.item.Item.{Array, Plain, Tables};
+ghost use Rattle.basic_toml_grow.specs.declared.item.Item.{Array, Plain, Sections, Tables};
 ghost use Rattle.basic_toml_tree.specs.Data.{data_of, child_data, table_data, child_pair, value_pair, HoldsAny};
 
-use crate::plain::{into_plain_table, into_plain_values, plain_table, plain_values};
-use basic_toml_grow::{Child, Item, PlainArray, Table, drain};
+use crate::plain::{
+    into_plain_table, into_plain_tables, into_plain_values, plain_table, plain_tables, plain_values,
+};
+use basic_toml_grow::{Child, Item, PlainArray, PlainTables, Table, drain};
 use basic_toml_value as values;
 use basic_toml_value::{Pair, Pairs, Text, Value};
 use std::alloc::{AllocError, Global};
@@ -32,6 +34,7 @@ pub(crate) fn value_of(alloc: Global, item: &Item<'_>) -> Result<Value, AllocErr
         Item::Inline(table) => Ok(Value::Table(table_of(alloc, table)?)),
         Item::Table(table) => Ok(Value::Table(table_of(alloc, table)?)),
         Item::Section(table) => Ok(Value::Table(plain_table(alloc, table.rows())?)),
+        Item::Sections(tables) => Ok(Value::Array(plain_tables(alloc, tables)?)),
         Item::Tables(tables) => {
             let mut elements = tables_of(alloc, tables.0.as_slice())?;
             elements.push(Value::Table(table_of(alloc, &tables.1)?))?;
@@ -111,6 +114,7 @@ fn into_value(alloc: Global, item: Item<'_>) -> Result<Value, AllocError>
         Item::Table(table) => into_inner_table(alloc, table),
         Item::Section(table) => into_plain_table(alloc, table.into_rows()),
         Item::Tables(tables) => into_array_of_tables(alloc, tables),
+        Item::Sections(tables) => into_sections(alloc, tables),
     }
 }
 
@@ -129,6 +133,13 @@ fn into_plain_array(alloc: Global, array: PlainArray<'_>) -> Result<Value, Alloc
     ensures { IfOk result (λ value. view value ≡ data_of (Plain array.entry)) }
 {
     Ok(Value::Array(into_plain_values(alloc, array.into_elements())?))
+}
+
+#[inline(always)]
+fn into_sections(alloc: Global, tables: Box<PlainTables<'_>>) -> Result<Value, AllocError>
+    ensures { IfOk result (λ value. view value ≡ data_of (Sections tables.entry)) }
+{
+    Ok(Value::Array(into_plain_tables(alloc, tables)?))
 }
 
 #[cycle(moves)]

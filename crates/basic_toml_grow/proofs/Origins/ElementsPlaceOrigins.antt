@@ -30,7 +30,7 @@ module _ {A : Type 0} where
   last_is (y ∷ xs) x zero same = absurd (omega (arith, same))
   last_is (y ∷ xs) x (suc n) same = last_is xs x n (omega (arith, same))
 
-  none_past : (xs : List A) (n : ℕ) → n ≡ length xs → slice_get xs n ≡ None
+  pub none_past : (xs : List A) (n : ℕ) → n ≡ length xs → slice_get xs n ≡ None
   none_past [] n same = refl
   none_past (y ∷ xs) zero same = absurd (omega (arith, same))
   none_past (y ∷ xs) (suc n) same = none_past xs n (omega (arith, same))

@@ -21,7 +21,8 @@ use Rattle.basic_toml_value.specs.declared.pairs.growth.Place.{Place}
 use Rattle.basic_toml_grow.specs.Origins.{Origin, Origins, no_origins, entry, under, at_keys, at_numbers}
 use Rattle.basic_toml_read.specs.declared.section.Row.{Row}
 use Rattle.basic_toml_read.specs.SectionView.{rows_seen}
-use Rattle.basic_toml_grow.specs.Origins.{elements_within, array_origin, value_origin, of_table, rows_origins, table_origin}
+use Rattle.basic_toml_grow.specs.PlainTables.{SectionTables}
+use Rattle.basic_toml_grow.specs.Origins.{elements_within, section_origins, array_origin, value_origin, of_table, rows_origins, table_origin}
 use Rattle.basic_toml_grow.specs.Origins.{Within, item_origins, child_origins, table_within, or_else, origins_before, beyond}
 use Rattle.basic_toml_grow.proofs.ItemTries.{table_entries_trie}
 use Rattle.basic_toml_value.proofs.KeysChanged.{value_at-map, first_at, none_at, put_at, kept_elsewhere}
@@ -60,6 +61,12 @@ table_item_seen t at s = search (rules, the_lemmas)
 pub section_item_seen : (rows : List Row) (at s : ℕ)
     → item_origins (items.Section rows) at s ≡ entry (table_origin true at s) (rows_origins s (rows_seen [] rows))
 section_item_seen rows at s = search (rules, the_lemmas)
+
+pub sections_seen : (tables : Box SectionTables Global) (at s : ℕ)
+    → item_origins (items.Sections tables) at s
+    ≡ entry (array_origin at tables.value.1.0)
+    (at_numbers (map (section_origins at) tables.value.0 ++ section_origins at tables.value.1 ∷ []))
+sections_seen tables at s = search (rules, the_lemmas)
 
 pub inline_seen : (t : Box Table Global) (at s : ℕ)
     → item_origins (Inline t) at s ≡ entry (value_origin (codes "inline table") at s) (table_origins t.value)

@@ -142,6 +142,7 @@ has_section (spots.Item b) made = go (out-Item b.now) made
   where
     go : (x : Item-F Item Child Table) → holds_tables x ≡ true → (n : ℕ) × (item_section x ≡ Some n)
     go (Item-F.Tables tables) made = ((out-Table tables.value.1).section, refl)
+    go (Item-F.Sections tables) made = (tables.value.1.0, refl)
     go (Item-F.Integer z) made = absurd (false≢true made)
     go (Item-F.Float z) made = absurd (false≢true made)
     go Item-F.True made = absurd (false≢true made)

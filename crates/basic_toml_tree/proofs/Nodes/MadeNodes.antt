@@ -90,6 +90,11 @@ item_made count b (Item-F.Tables tables) o is stands same own made = record {
   name = ap item_name is ∙ sym (ap (λ o. made_name (stands_array o)) same ∙ ap made_name stands);
   slice = ap holds_string is;
 }
+item_made count b (Item-F.Sections tables) o is stands same own made = record {
+  made = ap holds_tables is;
+  name = ap item_name is ∙ sym (ap (λ o. made_name (stands_array o)) same ∙ ap made_name stands);
+  slice = ap holds_string is;
+}
 item_made count b (Item-F.Table t) o is stands same own made = cc
 item_made count b (Item-F.Section z) o is stands same own made = cc
 item_made count b (Item-F.Integer z) o is stands same own made = absurd (false≢true (sym (ap stands_made stands) ∙ made))
@@ -139,6 +144,7 @@ not_table (Item-F.Inline z) o stands own p n d is = absurd (cc)
 not_table (Item-F.Table t) o stands own p n d is = absurd (cc)
 not_table (Item-F.Section z) o stands own p n d is = absurd (cc)
 not_table (Item-F.Tables tables) o stands own p n d is = absurd (false≢true (sym (ap stands_array is) ∙ stands))
+not_table (Item-F.Sections tables) o stands own p n d is = absurd (false≢true (sym (ap stands_array is) ∙ stands))
 
 pub root_made : (count : ℕ) (spot : Spot) (t : Table) → wraps_table spot ≡ false → (count == 0) ≡ true
     → spot_trie spot ≡ table_trie t → IsMade count spot

@@ -110,15 +110,22 @@ module _ (sections : List Section) (p : Path) (node : Node) (is : IsNodeAt secti
       made : (x : Item-F Item Child Table) → out-Item b.now ≡ x → is_made node ≡ holds_tables x
       made x e = ap (spot_is_made node.count) at ∙ ap holds_tables e
 
-      go : (x : Item-F Item Child Table) → out-Item b.now ≡ x
-          → IsAnchorOf sections p (item_anchor x node.start node.count)
-      go (Item-F.Tables tables) e = (
-        leads (out-Table tables.value.1).section (ap spot_section at ∙ ap item_section e)
-            (made (Item-F.Tables tables) e),
-        sym (arrays (made (Item-F.Tables tables) e)) ∙ ap (λ spot. stands_array (standing (spot_trie spot))) at
-            ∙ subst (λ x. item_standing x (standing (item_trie b.now))) e (standing_here b.now),
+      array : (x : Item-F Item Child Table) (n : ℕ) → out-Item b.now ≡ x → holds_tables x ≡ true → item_section x ≡ Some n
+          → stands_array (standing (item_trie b.now)) ≡ true → IsAnchorOf sections p (anchors.Array n node.count)
+      array x n e holds section stands = (
+        leads n (ap spot_section at ∙ ap item_section e ∙ section) (made x e ∙ holds),
+        sym (arrays (made x e ∙ holds)) ∙ ap (λ spot. stands_array (standing (spot_trie spot))) at ∙ stands,
         keys,
       )
+
+      go : (x : Item-F Item Child Table) → out-Item b.now ≡ x
+          → IsAnchorOf sections p (item_anchor x node.start node.count)
+      go (Item-F.Tables tables) e =
+          array (Item-F.Tables tables) (out-Table tables.value.1).section e refl refl
+          (subst (λ x. item_standing x (standing (item_trie b.now))) e (standing_here b.now))
+      go (Item-F.Sections tables) e =
+          array (Item-F.Sections tables) tables.value.1.0 e refl refl
+          (subst (λ x. item_standing x (standing (item_trie b.now))) e (standing_here b.now))
       go (Item-F.Integer z) e = of_value (made (Item-F.Integer z) e)
       go (Item-F.Float z) e = of_value (made (Item-F.Float z) e)
       go Item-F.True e = of_value (made Item-F.True e)

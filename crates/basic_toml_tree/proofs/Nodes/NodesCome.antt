@@ -8,7 +8,7 @@ use Rattle.std.proofs.Math.Path.{fun_ext}
 use Rattle.std.proofs.lemmas.Bool.{false≢true}
 use Rattle.basic_toml_value.specs.Pairs.{value_at}
 use Rattle.basic_toml_grammar.specs.Steps.{Step, key, number, Path}
-use Rattle.basic_toml_grow.specs.declared.item.Item.{Item, out-Item, the_lemmas, Array, Tables}
+use Rattle.basic_toml_grow.specs.declared.item.Item.{Item, out-Item, the_lemmas, Array}
 use Rattle.basic_toml_grow.specs.declared.item.Item as items
 use Rattle.basic_toml_grow.specs.declared.item.Item.TheOpen.{Item-F}
 use Rattle.basic_toml_grow.specs.declared.item.Item.TheViews.{roll-Item}
@@ -16,19 +16,15 @@ use Rattle.basic_toml_read.specs.declared.section.Row.{Row}
 use Rattle.basic_toml_read.specs.SectionView.{elements_view, rows_seen}
 use Rattle.basic_toml_grow.specs.Plain.{are_few_simple}
 use Rattle.basic_toml_grow.specs.Simple.{section_table}
-use Rattle.basic_toml_grow.specs.Origins.{elements_origins, rows_origins}
+use Rattle.basic_toml_grow.specs.Origins.{elements_origins, rows_origins, section_origins as rows_from}
 use Rattle.basic_toml_grow.specs.declared.item.Child.{Child, out-Child}
 use Rattle.basic_toml_grow.specs.declared.item.Table.{Table, out-Table}
 use Rattle.basic_toml_tree.specs.declared.tree.Tree.{Tree}
 use Rattle.basic_toml_tree.specs.declared.node.Node.{Node}
 use Rattle.basic_toml_tree.specs.declared.spot.HeaderTable.{HeaderTable}
-use Rattle.basic_toml_tree.specs.declared.spot.HeaderTable.TheVariants.{Section}
 use Rattle.basic_toml_tree.specs.declared.spot.Spot.{Spot}
 use Rattle.basic_toml_tree.specs.declared.spot.Spot.TheVariants as spots
-use Rattle.basic_toml_tree.specs.declared.section_table.SectionTable.{SectionTable}
-use Rattle.basic_toml_grow.specs.Item.{rows_of}
 use Rattle.basic_toml_tree.specs.HeaderTables.{table_of}
-use Rattle.basic_toml_tree.proofs.SectionData.{rows_are}
 use Rattle.basic_toml_tree.specs.Origin.{spot_is_made, spot_section, holds_tables, item_name, item_section, table_is_made}
 use Rattle.basic_toml_tree.specs.Origin.{holds_string}
 use Rattle.basic_toml_grow.specs.Origins.{Origin, Origins, no_origins, entry, under, at_numbers, value_origin}
@@ -40,7 +36,7 @@ use Rattle.basic_toml_tree.specs.Stands.{ComesFrom, tree_origins}
 use Rattle.basic_toml_grow.proofs.ItemsStand.{shape}
 use Rattle.basic_toml_grow.proofs.SectionTables.{section_origins}
 use Rattle.basic_toml_grow.proofs.Origins.OriginsSeen.{child_seen, made_seen, section_seen, table_origins, table_item_seen}
-use Rattle.basic_toml_grow.proofs.Origins.OriginsSeen.{array_seen, tables_seen, seen_at_key, seen_at_none}
+use Rattle.basic_toml_grow.proofs.Origins.OriginsSeen.{array_seen, seen_at_key, seen_at_none}
 
 -- one step on from a node
 pub comes_on : (from node : Node) (s : Step) (tree : Tree) (p : Path)
@@ -81,6 +77,7 @@ item_key (Item-F.Plain z) i t k q at s is holds = absurd holds
 item_key (Item-F.Rows z) i t k q at s is holds = absurd holds
 item_key (Item-F.Section z) i t k q at s is holds = absurd holds
 item_key (Item-F.Tables y) i t k q at s is holds = absurd holds
+item_key (Item-F.Sections y) i t k q at s is holds = absurd holds
 
 spot_key : (spot : Spot) (t : Table) (k : List ℕ) (q : Path) (at s : ℕ) → HoldsTable spot t
     → spot_origins spot at s (key k ∷ q) ≡ table_origins t (key k ∷ q)
@@ -134,6 +131,9 @@ item_bears (Item-F.Section z) at s = bears_entry (Item-F.Section z) at s (table_
 item_bears (Item-F.Tables y) at s = bears_entry (Item-F.Tables y) at s (array_origin at (table_within y.value.1).section)
     (at_numbers (elements_within at s (map table_within y.value.0.items ++ table_within y.value.1 ∷ [])))
     (search (rules, the_lemmas)) (λ apart. absurd (false≢true (sym apart)))
+item_bears (Item-F.Sections y) at s = bears_entry (Item-F.Sections y) at s (array_origin at y.value.1.0)
+    (at_numbers (map (rows_from at) y.value.0 ++ rows_from at y.value.1 ∷ []))
+    (search (rules, the_lemmas)) (λ apart. absurd (false≢true (sym apart)))
 
 pub child_bears : (c : Child) → Bears (out-Child c).section (child_origins c)
 child_bears c =
@@ -159,6 +159,11 @@ item_marked (Item-F.Tables y) at s = subst (Marked (Some (out-Table y.value.1).s
   where
     is : item_origins (roll-Item (Item-F.Tables y)) at s ≡ entry (array_origin at (table_within y.value.1).section)
         (at_numbers (elements_within at s (map table_within y.value.0.items ++ table_within y.value.1 ∷ [])))
+    is = search (rules, the_lemmas)
+item_marked (Item-F.Sections y) at s = subst (Marked (Some y.value.1.0)) (sym is) refl
+  where
+    is : item_origins (roll-Item (Item-F.Sections y)) at s ≡ entry (array_origin at y.value.1.0)
+        (at_numbers (map (rows_from at) y.value.0 ++ rows_from at y.value.1 ∷ []))
     is = search (rules, the_lemmas)
 item_marked (Item-F.Integer z) at s = not_marked None refl (item_origins (roll-Item (Item-F.Integer z)) at s)
 item_marked (Item-F.Float z) at s = not_marked None refl (item_origins (roll-Item (Item-F.Float z)) at s)
@@ -196,18 +201,6 @@ module _ {A B : Type 0} (f : A → B) where
   read_mapped [] n x read = absurd (cc)
   read_mapped (y ∷ ys) zero x read = let same : y ≡ x = cc in ap (λ y. Some (f y)) same
   read_mapped (y ∷ ys) (suc n) x read = read_mapped ys n x read
-
-pub tables_come : (from node : Node) (n : ℕ) (b : Bor Item) → from.spot ≡ spots.Item b
-    → (tables : Box (Vec Table Global × Table) Global) (t : Bor Table) → b.now ≡ Tables tables
-    → slice_get (map table_within tables.value.0.items ++ table_within tables.value.1 ∷ []) n ≡ Some (table_within t.now)
-    → ((s : ℕ) → ComesFrom (of_table from.start s (table_within t.now)) node)
-    → (s : ℕ) → ComesFrom (λ q. node_origins s from (number n ∷ q)) node
-tables_come from node n b at tables t is read comes s =
-    subst (λ f. ComesFrom f node) (fun_ext (λ q. sym (ap (λ spot. spot_origins spot from.start s (number n ∷ q)) at
-    ∙ ap (λ i. item_origins i from.start s (number n ∷ q)) is
-    ∙ ap (λ f. f (number n ∷ q)) (tables_seen tables from.start s)
-    ∙ ap (λ o. under o q) (read_mapped (of_table from.start s)
-    (map table_within tables.value.0.items ++ table_within tables.value.1 ∷ []) n (table_within t.now) read)))) (comes s)
 
 -- the root, of which nothing is told
 pub root_comes : (tree : Tree) (b : HeaderTable) (at : ℕ) → table_of b ≡ tree.root
@@ -275,18 +268,17 @@ child_table_comes c t b count spot at is same some is_spot is_at =
     (subst (λ f. SpotComes f count (spots.Table b) from) (sym seen)
     (table_comes t.value b count from s same some)))
 
-pub child_section_comes : (c : Child) (t : SectionTable) (rows : List Row) (count : ℕ) → t.child.now ≡ c
-    → (out-Child c).item ≡ items.Section rows → are_few_simple 0 rows ≡ true → (count == 0) ≡ false
-    → SpotComes (child_origins c) count (spots.Table (Section t)) (out-Child c).start
-child_section_comes c t rows count of is simple some =
+pub child_section_comes : (c : Child) (rows : List Row) (b : HeaderTable) (count : ℕ)
+    → (out-Child c).item ≡ items.Section rows → are_few_simple 0 rows ≡ true
+    → table_of b ≡ section_table (out-Child c).section rows → (count == 0) ≡ false
+    → SpotComes (child_origins c) count (spots.Table b) (out-Child c).start
+child_section_comes c rows b count is simple same some =
     let from = (out-Child c).start in
     let s = (out-Child c).section in
     let seen : child_origins c ≡ of_table from s (table_within (section_table s rows)) =
     child_seen c ∙ ap (λ i. item_origins i from s) is ∙ section_origins s rows simple from in
-    subst (λ f. SpotComes f count (spots.Table (Section t)) from) (sym seen)
-    (table_comes (section_table s rows) (Section t) count from s
-    (ap (λ (c : Child). section_table (out-Child c).section (rows_of c)) of
-    ∙ ap (section_table s) (rows_are c rows is)) some)
+    subst (λ f. SpotComes f count (spots.Table b) from) (sym seen)
+    (table_comes (section_table s rows) b count from s same some)
 
 -- an item
 abbrev item_told : Item-F Item Child Table → ℕ → ℕ → Origin
@@ -349,6 +341,10 @@ item_own (Item-F.Tables y) at s =
     own_of (item_origins (roll-Item (Item-F.Tables y)) at s) (array_origin at (table_within y.value.1).section)
     (item_told (Item-F.Tables y) at s)
     (at_numbers (elements_within at s (map table_within y.value.0.items ++ table_within y.value.1 ∷ [])))
+    (search (rules, the_lemmas)) (λ apart. absurd (false≢true (sym apart)))
+item_own (Item-F.Sections y) at s =
+    own_of (item_origins (roll-Item (Item-F.Sections y)) at s) (array_origin at y.value.1.0)
+    (item_told (Item-F.Sections y) at s) (at_numbers (map (rows_from at) y.value.0 ++ rows_from at y.value.1 ∷ []))
     (search (rules, the_lemmas)) (λ apart. absurd (false≢true (sym apart)))
 
 pub item_comes : (c : Child) (b : Bor Item) (count : ℕ) (spot : Spot) (at : ℕ) → b.now ≡ (out-Child c).item

@@ -2,17 +2,19 @@
 use Rattle.std.proofs.Common.{◌≡◌, ℕ, zero, suc, ◌+◌, ◌<◌, ◌≤◌, List, [], ◌∷◌, ◌++◌, length, drop, map, Some, refl, ap}
 use Rattle.std.proofs.Common.{◌∙◌, sym, arith, get_or, rules, IsTrue, Vec, Box, Global}
 use Rattle.std.specs.Prelude.{slice_get}
+use Rattle.std.proofs.lemmas.List.{map-append}
 use Rattle.std.specs.Iterator.{MakesProgress, item_count}
 use Rattle.std.specs.declared.iter.Iterator.{can_next-default}
 use Rattle.basic_toml_value.specs.Data.{Data, no_members, items_of, members_of}
 use Rattle.basic_toml_index.specs.Keys.{are_distinct}
 use Rattle.basic_toml_value.specs.Pairs.{keys_of}
-use Rattle.basic_toml_grow.specs.declared.item.Item.{the_lemmas, Array, Tables}
+use Rattle.basic_toml_grow.specs.PlainTables.{SectionTables, tables_in}
+use Rattle.basic_toml_grow.specs.declared.item.Item.{the_lemmas, Array, Sections, Tables}
 use Rattle.basic_toml_grow.specs.declared.item.Child.{Child}
 use Rattle.basic_toml_grow.specs.declared.item.Table.{Table, out-Table}
-use Rattle.basic_toml_tree.specs.Data.{data_of, child_data, table_data}
+use Rattle.basic_toml_tree.specs.Data.{data_of, child_data, section_data, table_data}
 use Rattle.basic_toml_tree.specs.Nodes.{listed, paired, elements_in, entries_in}
-use Rattle.basic_toml_tree.proofs.ItemData.{tables_data}
+use Rattle.basic_toml_tree.proofs.ItemData.{sections_item, tables_data}
 
 pub listed-items : (ds : List Data) → listed (items_of ds) ≡ ds
 listed-items [] = refl
@@ -87,6 +89,13 @@ pub tables_elements : (tables : Box (Vec Table Global × Table) Global)
     → elements_in (data_of (Tables tables)) ≡ map table_data tables.value.0.items ++ table_data tables.value.1 ∷ []
 tables_elements tables =
     ap elements_in (tables_data tables) ∙ listed-items (map table_data tables.value.0.items ++ table_data tables.value.1 ∷ [])
+
+pub sections_elements : (tables : Box SectionTables Global)
+    → elements_in (data_of (Sections tables)) ≡ map (λ t. section_data t.1) (tables_in tables.value)
+sections_elements tables =
+    ap elements_in (sections_item tables)
+    ∙ listed-items (map (λ t. section_data t.1) tables.value.0 ++ section_data tables.value.1.1 ∷ [])
+    ∙ sym (map-append (λ t. section_data t.1) tables.value.0 (tables.value.1 ∷ []))
 
 table_members : (t : Table)
     → table_data t ≡ Data.table (members_of (map (λ p. (p.0, child_data p.1)) (out-Table t).entries))

@@ -1,7 +1,7 @@
 -- A node below another one stands at the path of that one and one more step.
-use Rattle.std.proofs.Common.{◌≡◌, ◌⊎◌, inl, inr, ◌==◌, ℕ, zero, suc, ◌+◌, Bool, true, false, cond, List, [], ◌∷◌}
-use Rattle.std.proofs.Common.{◌++◌, Some, None, refl, ap, sym, ◌∙◌, subst, arith, map, length, rules, Vec, Box, Global, IsTrue}
-use Rattle.std.specs.Prelude.{slice_get, nat_eq, Option}
+use Rattle.std.proofs.Common.{◌≡◌, ◌⊎◌, inl, inr, ◌==◌, ℕ, Bool, true, false, cond, List, [], ◌∷◌}
+use Rattle.std.proofs.Common.{◌++◌, Some, None, refl, ap, sym, ◌∙◌, subst, map, rules, Vec, Box, Global, IsTrue}
+use Rattle.std.specs.Prelude.{slice_get, Option}
 use Rattle.std.specs.Option.{option_and_then}
 use Rattle.std.specs.Str.{bytes_eq}
 use Rattle.std.proofs.lemmas.Slice.Eq.{bytes_eq-Decides}
@@ -19,7 +19,7 @@ use Rattle.basic_toml_read.specs.declared.section.Element.{Element}
 use Rattle.basic_toml_read.specs.SectionView.{raw_of}
 use Rattle.basic_toml_read.proofs.ViewsSeen.{array_of}
 use Rattle.basic_toml_grow.specs.Plain.{plain_array}
-use Rattle.basic_toml_grow.specs.declared.item.Item.{Item, out-Item, the_lemmas, Array, Plain, Tables}
+use Rattle.basic_toml_grow.specs.declared.item.Item.{Item, out-Item, the_lemmas, Array, Plain}
 use Rattle.basic_toml_grow.specs.declared.item.Item.TheOpen.{Item-F}
 use Rattle.basic_toml_grow.specs.declared.item.Item.TheViews.{roll-Item}
 use Rattle.basic_toml_grow.specs.declared.item.Child.{Child}
@@ -27,30 +27,28 @@ use Rattle.basic_toml_grow.specs.declared.item.Table.{Table, out-Table}
 use Rattle.basic_toml_tree.specs.declared.tree.Tree.{Tree}
 use Rattle.basic_toml_tree.specs.declared.node.Node.{Node}
 use Rattle.basic_toml_tree.specs.declared.plain_value.PlainValue.{PlainValue}
-use Rattle.basic_toml_tree.specs.declared.spot.HeaderTable.TheVariants.{Entries}
 use Rattle.basic_toml_tree.specs.declared.spot.Spot.{Spot}
 use Rattle.basic_toml_tree.specs.declared.spot.Spot.TheVariants as spots
 use Rattle.basic_toml_value.specs.Growth.{values_of}
-use Rattle.basic_toml_grow.specs.Item.{item_trie, child_trie, table_trie, by_keys, by_numbers, leaf, tree_data}
+use Rattle.basic_toml_grow.specs.Item.{item_trie, child_trie, table_trie, by_keys, leaf, tree_data}
 use Rattle.basic_toml_tree.specs.Stands.{trie_at, tree_trie, spot_trie, wraps_table, HoldsTable, IsBelow, is_root}
 use Rattle.basic_toml_tree.specs.Keys.{CountsKeys, KeysLead, RowsLead}
 use Rattle.basic_toml_tree.proofs.Nodes.KeysLead.{count_beside, keys_beside, rows_beside}
 use Rattle.basic_toml_tree.specs.Stands.{StandsAt, StandsOn, IsBeside, is_wrapper, ItemHolds, ComesFrom, node_origins}
-use Rattle.basic_toml_tree.specs.Stands.{StartIsKept, tree_origins, IsPlainElement, IsTableBeside, spot_origins}
+use Rattle.basic_toml_tree.specs.Stands.{StartIsKept, tree_origins, IsPlainElement, spot_origins}
 use Rattle.basic_toml_tree.specs.Data.{child_data, table_data}
 use Rattle.basic_toml_tree.specs.Nodes.{node_data, data_at, elements_in}
 use Rattle.basic_toml_tree.specs.HeaderTables.{table_of}
 use Rattle.basic_toml_tree.specs.Outer.{around}
 use Rattle.basic_toml_tree.specs.Paths.{data_by, data_along}
-use Rattle.basic_toml_grow.specs.Origins.{child_origins, item_origins, table_within, value_origins}
+use Rattle.basic_toml_grow.specs.Origins.{child_origins, item_origins, value_origins}
 use Rattle.basic_toml_tree.proofs.Nodes.PlainNodes.{element_comes}
 use Rattle.basic_toml_tree.proofs.ItemData.{data_at_found}
 use Rattle.basic_toml_grow.proofs.ItemTries.{table_entries_trie}
 use Rattle.basic_toml_grow.proofs.PlainArrays.{plain_trie}
 use Rattle.basic_toml_value.proofs.KeysChanged.{first_at}
 use Rattle.basic_toml_grow.proofs.ItemsStand.{shape}
-use Rattle.basic_toml_tree.proofs.Nodes.NodesCome.{comes_on, key_comes, key_origins, literal_comes, tables_come}
-use Rattle.basic_toml_tree.proofs.Nodes.NodesCome.{table_node_comes}
+use Rattle.basic_toml_tree.proofs.Nodes.NodesCome.{comes_on, key_comes, key_origins, literal_comes}
 use Rattle.basic_toml_tree.proofs.Nodes.Lines.{around_key, around_number}
 use Rattle.basic_toml_grow.proofs.KeysInATrie.{tries_of}
 
@@ -92,17 +90,6 @@ find_key (p ∷ ps) k c found = go (find_key ps k c) (bytes_eq k p.0) refl found
         rw (same, bytes_eq-same p.0) (ap child_trie this)
     go ih false e found = rw (bytes_eq_other p.0 k e) (ih found)
 
-find_number : (k n m : ℕ) (ts : List Trie) (u : Trie) → m ≡ k + n → slice_get ts n ≡ Some u
-    → find (number m) (by_numbers k ts) ≡ u
-find_number k n m [] u is found = absurd (cc)
-find_number k zero m (t ∷ ts) u is found =
-    let same : nat_eq k m ≡ true = grind (arith, is) in
-    let this : t ≡ u = cc in
-    rw same this
-find_number k (suc n) m (t ∷ ts) u is found =
-    let other : nat_eq k m ≡ false = grind (arith, is) in
-    rw other (find_number (suc k) n m ts u (omega (arith, is)) found)
-
 table_below : (t : Table) (k : List ℕ) (c : Child) → value_at (out-Table t).entries k ≡ Some c
     → below (key k) (table_trie t) ≡ child_trie c
 table_below t k c found = ap (below (key k)) (table_entries_trie t) ∙ find_key (out-Table t).entries k c found
@@ -113,12 +100,6 @@ array_trie children =
 
 inline_trie : (t : Box Table Global) → (d : Data) × (item_trie (roll-Item (Item-F.Inline t)) ≡ leaf d)
 inline_trie t = (tree_data (table_trie t.value), search (rules, the_lemmas))
-
-tables_trie : (tables : Box (Vec Table Global × Table) Global)
-    → item_trie (Tables tables)
-    ≡ trie (Some (standing.array (suc (length (map table_trie tables.value.0.items))))) None
-    (by_numbers 0 (map table_trie tables.value.0.items ++ table_trie tables.value.1 ∷ []))
-tables_trie tables = search (rules, the_lemmas)
 
 abbrev NothingOr : Step → Trie → Trie → Type 0
 NothingOr s from t = (below s from ≡ nothing) ⊎ (t ≡ below s from)
@@ -141,6 +122,7 @@ item_below i (Item-F.Array z) t k u is own holds = absurd holds
 item_below i (Item-F.Plain z) t k u is own holds = absurd holds
 item_below i (Item-F.Rows z) t k u is own holds = absurd holds
 item_below i (Item-F.Tables z) t k u is own holds = absurd holds
+item_below i (Item-F.Sections z) t k u is own holds = absurd holds
 
 spot_below : (spot : Spot) (t : Table) (k : List ℕ) (c : Child) → HoldsTable spot t → wraps_table spot ≡ false
     → value_at (out-Table t).entries k ≡ Some c → NothingOr (key k) (spot_trie spot) (child_trie c)
@@ -196,7 +178,7 @@ module _ (from node : Node) (s : Step) (same : node.tree ≡ from.tree)
 abbrev pub KeepsBelow : Node → Node → Type 0
 KeepsBelow from node = (tree : Tree) (p : Path) → StandsAt tree p from → StartIsKept tree p node.outer
 
-kept_beside : (from node : Node) (n : ℕ) (tree : Tree) (p : Path) → node.outer ≡ from.outer → StandsAt tree p from
+pub kept_beside : (from node : Node) (n : ℕ) (tree : Tree) (p : Path) → node.outer ≡ from.outer → StandsAt tree p from
     → StartIsKept tree (around (p ++ number n ∷ [])) node.outer
 kept_beside from node n tree p same stands =
     subst (λ q. StartIsKept tree q node.outer) (sym (around_number p n))
@@ -253,7 +235,7 @@ abbrev pub tells_table : Trie → Bool
 tells_table (trie (Some (standing.table p n d)) v ts) = true
 tells_table _ = false
 
-no_array_root : (from : Node) (tree : Tree) (p : Path) → StandsAt tree p from
+pub no_array_root : (from : Node) (tree : Tree) (p : Path) → StandsAt tree p from
     → tells_table (spot_trie from.spot) ≡ false → is_root p ≡ false
 no_array_root from tree (s ∷ p) stands array = refl
 no_array_root from tree [] stands array = go stands.there
@@ -316,27 +298,3 @@ module _ (from node : Node) (n : ℕ) (b : Bor Item) (at : from.spot ≡ spots.I
       element_stands from node n es placed (array_spot from b (Plain es) at is ∙ plain_trie es)
       (λ start s. ap (λ spot. spot_origins spot start s) at ∙ ap (λ i. item_origins i start s) is ∙ plain_origins es start s)
       read
-
-  pub tables_stand : (tables : Box (Vec Table Global × Table) Global) (t : Bor Table)
-      → b.now ≡ Tables tables
-      → slice_get (map table_trie tables.value.0.items ++ table_trie tables.value.1 ∷ []) n ≡ Some (table_trie t.now)
-      → slice_get (map table_within tables.value.0.items ++ table_within tables.value.1 ∷ []) n ≡ Some (table_within t.now)
-      → slice_get (elements_in (node_data from)) n ≡ Some (node_data node)
-      → IsTableBeside from t node → node.start ≡ from.start → StandsOn from (number n) node
-  tables_stand tables t is found read held beside start tree p stands =
-      let counted : (node.count == 0) ≡ false =
-      ap (λ c. c == 0) beside.count ∙ stands.root ∙ no_array_root from tree p stands
-      (ap tells_table (array_spot from b (Tables tables) at is ∙ tables_trie tables)) in
-      let here = array_spot from b (Tables tables) at is ∙ tables_trie tables in
-      let there : spot_trie node.spot ≡ below (number n) (spot_trie from.spot) =
-      ap spot_trie beside.spot
-      ∙ sym (ap (below (number n)) here
-      ∙ find_number 0 n n (map table_trie tables.value.0.items ++ table_trie tables.value.1 ∷ []) (table_trie t.now) (omega arith)
-      found) in
-      stands_on from node (number n) beside.tree held (λ own. inr (there, ap wraps_table beside.spot))
-      (λ s. tables_come from node n b at tables t is read
-      (λ s. table_node_comes (Entries t) node from.start s beside.spot start counted) s) tree p stands counted
-      (kept_beside from node n tree p beside.outer stands)
-      (count_beside from node (spots.Table (Entries t)) n beside tree p stands)
-      (keys_beside from node (spots.Table (Entries t)) n beside tree p stands)
-      (rows_beside from node (spots.Table (Entries t)) n beside tree p stands)

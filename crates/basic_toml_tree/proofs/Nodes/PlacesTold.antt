@@ -123,6 +123,7 @@ literal_name count (spots.Item b) not = go (out-Item b.now) not
     go (Item-F.Table z) not = refl
     go (Item-F.Section z) not = refl
     go (Item-F.Tables y) not = absurd (false≢true (sym not))
+    go (Item-F.Sections y) not = absurd (false≢true (sym not))
 literal_name count (spots.Plain b) not =
     ap (λ v. names_array (raw_name (raw_of v))) (sym (raws.roll-out-Raw b.value.now)) ∙ go (raws.out-Raw b.value.now)
   where

@@ -221,6 +221,7 @@ means (spots.Item b) rs simple holds = go (out-Item b.now) refl holds
     go (Item-F.Inline z) is holds = absurd holds
     go (Item-F.Table z) is holds = absurd holds
     go (Item-F.Tables z) is holds = absurd holds
+    go (Item-F.Sections z) is holds = absurd holds
 means (spots.Plain v) rs simple holds = go (raws.out-Raw v.value.now) refl holds
   where
     go : (x : Raw-F raws.Raw Element Row code_rows.Rows) → raws.out-Raw v.value.now ≡ x → RawRows x rs

@@ -11,7 +11,7 @@ use Rattle.basic_toml_value.specs.Pairs.{keys_of, value_at}
 use Rattle.basic_toml_value.proofs.KeysChanged.{first_at}
 use Rattle.basic_toml_read.specs.SectionView.{raw_of}
 use Rattle.basic_toml_read.specs.declared.section.Row.{Row, out-Row}
-use Rattle.basic_toml_grow.specs.Item.{child_trie, item_trie, leaf, rows_of, table_trie}
+use Rattle.basic_toml_grow.specs.Item.{child_trie, item_trie, leaf, table_trie}
 use Rattle.basic_toml_grow.specs.Origins.{child_origins, value_origins}
 use Rattle.basic_toml_grow.specs.Plain.{are_few_simple, is_plain, key_of, plain_data, rows_data}
 use Rattle.basic_toml_grow.specs.Simple.{child_of, entries_of, section_table}
@@ -36,7 +36,7 @@ use Rattle.basic_toml_tree.specs.declared.spot.Fields.TheVariants as fields
 use Rattle.basic_toml_tree.specs.declared.spot.Spot.{Spot}
 use Rattle.basic_toml_tree.specs.declared.spot.Spot.TheVariants as spots
 use Rattle.basic_toml_tree.proofs.ItemData.{child_item}
-use Rattle.basic_toml_tree.proofs.SectionData.{rows_are, section_data, section_rows}
+use Rattle.basic_toml_tree.proofs.SectionData.{section_rows, section_table_data}
 use Rattle.basic_toml_tree.proofs.Nodes.KeysTold.{key_keeps}
 use Rattle.basic_toml_tree.proofs.Nodes.NodesCome.{read_mapped}
 use Rattle.basic_toml_tree.proofs.Nodes.NodesStand.{key_stands}
@@ -118,17 +118,13 @@ module _ (from node : Node) (s : ℕ) (rows : List Row) (holds : HoldsTable from
 -- what stands for the table of a header, of which one header alone speaks
 module _ (c : Child) (rows : List Row) (is : (out-Child c).item ≡ items.Section rows)
     (simple : are_few_simple 0 rows ≡ true) where
-  same : section_table (out-Child c).section (rows_of c) ≡ section_table (out-Child c).section rows
-  same = ap (section_table (out-Child c).section) (rows_are c rows is)
+  pub section_child_trie : table_trie (section_table (out-Child c).section rows) ≡ child_trie c
+  section_child_trie = sym (section_trie (out-Child c).section rows simple) ∙ ap item_trie (sym is) ∙ child_is c
 
-  pub section_child_trie : table_trie (section_table (out-Child c).section (rows_of c)) ≡ child_trie c
-  section_child_trie =
-      ap table_trie same ∙ sym (section_trie (out-Child c).section rows simple) ∙ ap item_trie (sym is) ∙ child_is c
-
-  pub section_child_data : table_data (section_table (out-Child c).section (rows_of c)) ≡ child_data c
+  pub section_child_data : table_data (section_table (out-Child c).section rows) ≡ child_data c
   section_child_data =
-      ap table_data same ∙ section_data (out-Child c).section rows simple ∙ sym (section_rows rows simple)
-      ∙ ap data_of (sym is) ∙ sym (child_item c)
+      section_table_data (out-Child c).section rows simple ∙ sym (section_rows rows simple) ∙ ap data_of (sym is)
+      ∙ sym (child_item c)
 
 -- an item that holds no table of headers or of dotted keys
 pub no_wrapper : (i : Item) → ((t : Box Table Global) → i ≡ items.Table t → ⊥)
@@ -153,6 +149,7 @@ no_wrapper i table section = go (out-Item i) (shape i (out-Item i) refl)
     go (Item-F.Rows z) is = refl
     go (Item-F.Inline z) is = refl
     go (Item-F.Tables z) is = refl
+    go (Item-F.Sections z) is = refl
 
 -- the rows of a table that is not one of entries
 pub record HasRows (d : Data) : Type 0 where

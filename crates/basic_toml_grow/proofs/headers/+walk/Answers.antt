@@ -23,11 +23,14 @@ use Rattle.basic_toml_grow.specs.Headers.{EntersItem, entered_at, entered_by, is
 use Rattle.basic_toml_grow.specs.Obstacles.{keys_obstacle}
 use Rattle.basic_toml_grow.specs.Origins.{child_origins, item_origins, no_origins, Origins, origins_before, rows_origins}
 use Rattle.basic_toml_grow.specs.Ways.{way_at, way_by, GrowsAlong, MarksWay, MarksTable, way}
-use Rattle.basic_toml_grammar.specs.Steps.{Path}
+use Rattle.basic_toml_grammar.specs.Steps.{Path, number}
 use Rattle.basic_toml_grow.proofs.RowsEntered.{ok_on}
 use Rattle.basic_toml_grow.proofs.PlainValues.{few_lower}
 use Rattle.basic_toml_grow.proofs.RowsLeft.{no_parents_seen}
 use Rattle.basic_toml_grow.proofs.SectionsEntered.{section_entered, section_grows, section_marks}
+use Rattle.basic_toml_grow.proofs.SectionsAdded.{added_marks, first_added, first_grows}
+use Rattle.basic_toml_grow.proofs.SectionsAdded.{child_added, child_grows, child_marks}
+use Rattle.basic_toml_grow.specs.PlainTables.{with_table}
 use Rattle.basic_toml_grow.proofs.WhatIsLeft.{nothing_left}
 use Rattle.basic_toml_grow.specs.declared.item.Table.{Table}
 use Rattle.basic_toml_grow.specs.Origins.{table_within}
@@ -406,6 +409,211 @@ enter_last-returns-clause-marks t c =
     (λ x marks. passed_marks n false k [] (header_texts (c.args.key.now ∷ [])) c.args.table.now _ p child now
     (ap (λ k. k ∷ []) (sym c.as_str.ensures.value)) pass
     (passed_number c.args.table.now c.enter.new.self n p.position now) marks) c.enter_at.ensures.marks
+
+-- a table that is added to an array, where all rows stay as they were read
+few_rows : (level : ℕ) (slice items : List Row) (b : Bool) → slice ≡ items → b ≡ are_few_simple level slice → b ≡ true
+    → are_few_simple level items ≡ true
+few_rows level slice items b seen is few = are_kept level slice items items b seen refl is few
+
+pub enter_element-new-requires : goal.enter_element-new-requires
+enter_element-new-requires t c =
+    let items = (tables.out-Rows c.args.rows.now).rows.items in
+    few_lower items (c.args.level + 2)
+    (few_rows (c.args.level + 2) c.as_slice.result.now items c.are_few_simple.result c.as_slice.ensures.value
+    c.are_few_simple.ensures (grind (arith, c.if-not-are_few_simple.false)))
+
+pub enter_element-push-requires : goal.enter_element-push-requires
+enter_element-push-requires t c =
+    let items = (tables.out-Rows c.args.rows.now).rows.items in
+    few_lower items (c.args.level + 2)
+    (few_rows (c.args.level + 2) c.as_slice.result.now items c.are_few_simple.result c.as_slice.ensures.value
+    c.are_few_simple.ensures (grind (arith, c.if-not-are_few_simple.false)))
+
+-- the first one
+pub enter_element-returns-then-place-clause-entered : goal.enter_element-returns-then-place-clause-entered
+enter_element-returns-then-place-clause-entered t c =
+    let own = tables.out-Rows c.args.rows.now in
+    let rows = own.rows.items in
+    let seen = no_parents_seen c.args.rows.now (no_parents own.parents c.is_empty.result c.is_empty.ensures
+    (grind (arith, c.if-not-is_empty.false))) in
+    let few = few_rows (c.args.level + 2) c.as_slice.result.now rows c.are_few_simple.result c.as_slice.ensures.value
+    c.are_few_simple.ensures (grind (arith, c.if-not-are_few_simple.false)) in
+    let k = c.as_str.result.now in
+    let child = c.value_mut-there.result.now in
+    let p = c.in_ok-place.place in
+    let now = c.at.result in
+    let pass = passes k c.args.table.now c.enter.new.self c.args.number p child now c.in_ok-place.ensures.entered
+    c.value_mut-there.ensures.value in
+    passed_by true (rows_view c.args.rows.now) k [] (header_texts (c.args.key.now ∷ [])) c.args.level c.args.table.now _ p
+    child now (ap (λ k. k ∷ []) (sym c.as_str.ensures.value)) pass (Ok tt)
+    (subst (λ (b : Trie). EntersItem (entered_at true (rows_view c.args.rows.now) [] b) (rows_view c.args.rows.now)
+    (c.args.level + 2) (child_trie now) (Ok tt))
+    (sym (ap (λ b. trie_before b (child_trie child)) c.if-place.true))
+    (subst (λ (rs : Rows). EntersItem (entered_at true rs [] nothing) rs (c.args.level + 2) (child_trie now) (Ok tt))
+    (sym seen)
+    (subst (λ (after : Trie). EntersItem (entered_at true (rows_seen [] rows) [] nothing) (rows_seen [] rows)
+    (c.args.level + 2) after (Ok tt)) (sym c.at.ensures.trie)
+    (first_added c.args.number c.args.level rows (omega arith) few c.in_ok-tables.tables c.in_ok-tables.ensures.tables))))
+
+pub enter_element-returns-then-place-clause-origins : goal.enter_element-returns-then-place-clause-origins
+enter_element-returns-then-place-clause-origins t c =
+    let own = tables.out-Rows c.args.rows.now in
+    let rows = own.rows.items in
+    let seen = no_parents_seen c.args.rows.now (no_parents own.parents c.is_empty.result c.is_empty.ensures
+    (grind (arith, c.if-not-is_empty.false))) in
+    let k = c.as_str.result.now in
+    let child = c.value_mut-there.result.now in
+    let p = c.in_ok-place.place in
+    let n = c.args.number in
+    let now = c.at.result in
+    let pass = passes k c.args.table.now c.enter.new.self n p child now c.in_ok-place.ensures.entered
+    c.value_mut-there.ensures.value in
+    passed_grows true (rows_origins n (rows_view c.args.rows.now)) k [] (header_texts (c.args.key.now ∷ []))
+    c.args.table.now _ p child now (ap (λ k. k ∷ []) (sym c.as_str.ensures.value)) pass
+    (subst (λ (b : Bool). GrowsAlong (way_at true [] (trie_before b (child_trie child)))
+    (rows_origins n (rows_view c.args.rows.now)) (origins_before b (child_origins child)) (child_origins now))
+    (sym c.if-place.true)
+    (subst (λ (rs : Rows). GrowsAlong (number 0 ∷ []) (rows_origins n rs) no_origins (child_origins now)) (sym seen)
+    (subst (λ (after : Origins). GrowsAlong (number 0 ∷ []) (rows_origins n (rows_seen [] rows)) no_origins after)
+    (sym c.at.ensures.origins) (first_grows n c.args.level rows 0 0 c.in_ok-tables.tables c.in_ok-tables.ensures.tables))))
+
+pub enter_element-returns-then-place-clause-marks : goal.enter_element-returns-then-place-clause-marks
+enter_element-returns-then-place-clause-marks t c =
+    let rows = (tables.out-Rows c.args.rows.now).rows.items in
+    let k = c.as_str.result.now in
+    let child = c.value_mut-there.result.now in
+    let p = c.in_ok-place.place in
+    let n = c.args.number in
+    let now = c.at.result in
+    let new = c.enter.new.self in
+    let pass = passes k c.args.table.now new n p child now c.in_ok-place.ensures.entered
+    c.value_mut-there.ensures.value in
+    passed_marks n true k [] (header_texts (c.args.key.now ∷ [])) c.args.table.now _ p child now
+    (ap (λ k. k ∷ []) (sym c.as_str.ensures.value)) pass (passed_number c.args.table.now new n p.position now)
+    (subst (λ (b : Bool). MarksWay n (way_at true [] (trie_before b (child_trie child))) (child_origins now))
+    (sym c.if-place.true)
+    (subst (λ (after : Origins). MarksWay n (number 0 ∷ []) after) (sym c.at.ensures.origins)
+    (added_marks n c.args.level rows 0 0 c.in_ok-tables.tables [] 0 refl c.in_ok-tables.ensures.tables)))
+
+pub enter_element-returns-then-place-clause-taken : goal.enter_element-returns-then-place-clause-taken
+enter_element-returns-then-place-clause-taken t c =
+    let own = tables.out-Rows c.args.rows.now in
+    let empty : c.is_empty.result ≡ true = grind (arith, c.if-not-is_empty.false) in
+    let none = no_parents own.parents c.is_empty.result c.is_empty.ensures empty in
+    search (rules, none, c.in_ok-tables.ensures.taken, raws.the_lemmas)
+
+-- one after others
+pub enter_element-returns-in-Sections-clause-entered : goal.enter_element-returns-in-Sections-clause-entered
+unfolding out-Item out
+enter_element-returns-in-Sections-clause-entered t c =
+    let own = tables.out-Rows c.args.rows.now in
+    let rows = own.rows.items in
+    let k = c.as_str.result.now in
+    let n = c.args.number in
+    let child = c.value_mut-there.result.now in
+    let p = c.in_ok-place.place in
+    let old = c.in-Sections.tables in
+    let is : false ≡ p.is_new = grind (arith, c.if-place.false) in
+    let more = c.in_ok-push.ensures.tables
+    ∙ ap (λ ts. with_table ts (n, rows)) (c.deref_mut.ensures.value ∙ rw c.in-Sections.is refl) in
+    let seen = no_parents_seen c.args.rows.now (no_parents own.parents c.is_empty.result c.is_empty.ensures
+    (grind (arith, c.if-not-is_empty.false))) in
+    let pass = passes k c.args.table.now c.enter.new.self n p child _ c.in_ok-place.ensures.entered
+    c.value_mut-there.ensures.value in
+    let few = few_rows (c.args.level + 2) c.as_slice.result.now rows c.are_few_simple.result c.as_slice.ensures.value
+    c.are_few_simple.ensures (grind (arith, c.if-not-are_few_simple.false)) in
+    passed_by true (rows_view c.args.rows.now) k [] (header_texts (c.args.key.now ∷ [])) c.args.level c.args.table.now _ p
+    child _ (ap (λ k. k ∷ []) (sym c.as_str.ensures.value)) pass (Ok tt)
+    (child_added n c.args.level rows (rows_view c.args.rows.now) seen child _ p.is_new old
+    (boxes.with_value old c.push.new.self) is c.in-Sections.is (rw c.in-Sections.is (search (rules, items.the_lemmas)))
+    more (omega arith) few)
+
+pub enter_element-returns-in-Sections-clause-origins : goal.enter_element-returns-in-Sections-clause-origins
+unfolding out-Item out
+enter_element-returns-in-Sections-clause-origins t c =
+    let own = tables.out-Rows c.args.rows.now in
+    let rows = own.rows.items in
+    let k = c.as_str.result.now in
+    let n = c.args.number in
+    let child = c.value_mut-there.result.now in
+    let p = c.in_ok-place.place in
+    let old = c.in-Sections.tables in
+    let is : false ≡ p.is_new = grind (arith, c.if-place.false) in
+    let more = c.in_ok-push.ensures.tables
+    ∙ ap (λ ts. with_table ts (n, rows)) (c.deref_mut.ensures.value ∙ rw c.in-Sections.is refl) in
+    let seen = no_parents_seen c.args.rows.now (no_parents own.parents c.is_empty.result c.is_empty.ensures
+    (grind (arith, c.if-not-is_empty.false))) in
+    let pass = passes k c.args.table.now c.enter.new.self n p child _ c.in_ok-place.ensures.entered
+    c.value_mut-there.ensures.value in
+    passed_grows true (rows_origins n (rows_view c.args.rows.now)) k [] (header_texts (c.args.key.now ∷ []))
+    c.args.table.now _ p child _ (ap (λ k. k ∷ []) (sym c.as_str.ensures.value)) pass
+    (child_grows n c.args.level rows (rows_view c.args.rows.now) seen child _ p.is_new old
+    (boxes.with_value old c.push.new.self) is c.in-Sections.is (rw c.in-Sections.is (search (rules, items.the_lemmas)))
+    more (search (rules, items.the_lemmas)) (search (rules, items.the_lemmas)))
+
+pub enter_element-returns-in-Sections-clause-marks : goal.enter_element-returns-in-Sections-clause-marks
+unfolding out-Item out
+enter_element-returns-in-Sections-clause-marks t c =
+    let own = tables.out-Rows c.args.rows.now in
+    let rows = own.rows.items in
+    let k = c.as_str.result.now in
+    let n = c.args.number in
+    let child = c.value_mut-there.result.now in
+    let p = c.in_ok-place.place in
+    let old = c.in-Sections.tables in
+    let is : false ≡ p.is_new = grind (arith, c.if-place.false) in
+    let more = c.in_ok-push.ensures.tables
+    ∙ ap (λ ts. with_table ts (n, rows)) (c.deref_mut.ensures.value ∙ rw c.in-Sections.is refl) in
+    let seen = no_parents_seen c.args.rows.now (no_parents own.parents c.is_empty.result c.is_empty.ensures
+    (grind (arith, c.if-not-is_empty.false))) in
+    let pass = passes k c.args.table.now c.enter.new.self n p child _ c.in_ok-place.ensures.entered
+    c.value_mut-there.ensures.value in
+    passed_marks n true k [] (header_texts (c.args.key.now ∷ [])) c.args.table.now _ p child _
+    (ap (λ k. k ∷ []) (sym c.as_str.ensures.value)) pass (passed_number c.args.table.now c.enter.new.self n p.position _)
+    (child_marks n c.args.level rows (rows_view c.args.rows.now) seen child _ p.is_new old
+    (boxes.with_value old c.push.new.self) is c.in-Sections.is (rw c.in-Sections.is (search (rules, items.the_lemmas)))
+    more)
+
+pub enter_element-returns-in-Sections-clause-taken : goal.enter_element-returns-in-Sections-clause-taken
+enter_element-returns-in-Sections-clause-taken t c =
+    let own = tables.out-Rows c.args.rows.now in
+    let empty : c.is_empty.result ≡ true = grind (arith, c.if-not-is_empty.false) in
+    let none = no_parents own.parents c.is_empty.result c.is_empty.ensures empty in
+    search (rules, none, c.in_ok-push.ensures.taken, raws.the_lemmas)
+
+-- where the array has entries already, or none stands there
+pub enter_element-returns : goal.enter_element-returns
+enter_element-returns t c =
+    let rows = rows_view c.args.rows.now in
+    let new = rows_origins c.args.number rows in
+    let k = c.as_str.result.now in
+    let whole = header_texts (c.args.key.now ∷ []) in
+    let child = c.value_mut-there.result.now in
+    let now = c.enter_at.new.there in
+    let p = c.in_ok-place.place in
+    let is : false ≡ p.is_new = grind (arith, c.if-place.false) in
+    let same = ap (λ k. k ∷ []) (sym c.as_str.ensures.value) in
+    let pass = passes k c.args.table.now c.enter.new.self c.args.number p child now c.in_ok-place.ensures.entered
+    c.value_mut-there.ensures.value in record {
+      entered = passed_by true rows k [] whole c.args.level c.args.table.now _ p child now same pass c.enter_at.result
+          (subst (λ (b : Bool). EntersItem (entered_at true rows [] (trie_before b (child_trie child))) rows
+          (c.args.level + 2) (child_trie now) c.enter_at.result) is c.enter_at.ensures.entered);
+      named = subst (λ (o : Option Obstacle). IfErr c.enter_at.result (λ clash. NamesObstacle o clash))
+          (sym (passed_met true rows k [] whole c.args.level c.args.table.now _ p child now (omega arith) same pass))
+          (subst (λ (b : Bool). IfErr c.enter_at.result (λ clash. NamesObstacle
+          (obstacle_at true rows [] (c.args.level + 1) (trie_before b (child_trie child))) clash)) is
+          c.enter_at.ensures.named);
+      origins = ok_on _ _ c.enter_at.result
+          (λ x grows. passed_grows true new k [] whole c.args.table.now _ p child now same pass
+          (subst (λ (b : Bool). GrowsAlong (way_at true [] (trie_before b (child_trie child))) new
+          (origins_before b (child_origins child)) (child_origins now)) is grows)) c.enter_at.ensures.origins;
+      marks = ok_on _ _ c.enter_at.result
+          (λ x marks. passed_marks c.args.number true k [] whole c.args.table.now _ p child now same pass
+          (passed_number c.args.table.now c.enter.new.self c.args.number p.position now)
+          (subst (λ (b : Bool). MarksWay c.args.number (way_at true [] (trie_before b (child_trie child)))
+          (child_origins now)) is marks)) c.enter_at.ensures.marks;
+      taken = c.enter_at.ensures.taken;
+    }
 
 pub enter_below-returns-clause-entered : goal.enter_below-returns-clause-entered
 enter_below-returns-clause-entered t c =

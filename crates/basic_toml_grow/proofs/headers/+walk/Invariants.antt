@@ -7,6 +7,9 @@ decreases-enter_header l = 5 * length l.keys.now
 abbrev pub decreases-enter_last : goal.decreases-enter_last
 decreases-enter_last l = 4
 
+abbrev pub decreases-enter_element : goal.decreases-enter_element
+decreases-enter_element l = 4
+
 abbrev pub decreases-enter_below : goal.decreases-enter_below
 decreases-enter_below l = 5 * length l.rest.now + 3
 

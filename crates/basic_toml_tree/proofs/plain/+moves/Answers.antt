@@ -3,7 +3,7 @@ use Rattle.std.specs.Prelude.{nat_le}
 use Rattle.std.proofs.lemmas.Bool.{and_parts}
 use Rattle.basic_toml_index.specs.Index.{few}
 use Rattle.basic_toml_value.specs.Data.{Data, items_of, members_of}
-use Rattle.basic_toml_value.specs.View.{view, entries}
+use Rattle.basic_toml_value.specs.View.{view}
 use Rattle.basic_toml_value.proofs.Sizes.{data_size, items_size, members_size}
 use Rattle.basic_toml_grow.specs.Plain.{is_plain, are_plain, are_simple, plain_data, element_data}
 use Rattle.basic_toml_grow.proofs.PlainSeen.{array_data}
@@ -11,9 +11,8 @@ use Rattle.basic_toml_grow.proofs.PlainValues.{array_within, table_within}
 use Rattle.basic_toml_grow.proofs.WhatIsLeft.{mapped_next, nothing_left, none_after}
 use Rattle.basic_toml_tree.specs.Data.{value_pair, row_pair}
 use Rattle.basic_toml_tree.proofs.DataParts.{array_seen, items_size-rest, members_size-rest}
-use Rattle.basic_toml_tree.proofs.ItemData.{entries_seen, table_seen}
 use Rattle.basic_toml_tree.proofs.PlainLeft.{element_left, element_value, row_left}
-use Rattle.basic_toml_tree.proofs.RowsData.{inline_rows, few_data, few_indexed}
+use Rattle.basic_toml_tree.proofs.RowsData.{inline_rows, few_data, few_indexed, values_seen}
 use Rattle.basic_toml_tree.proofs.plain.+moves.Goals as goal
 
 pub into_plain_value-into_plain_values-requires : goal.into_plain_value-into_plain_values-requires
@@ -206,8 +205,5 @@ into_plain_table-from_parts-requires t c =
 
 pub into_plain_table-returns : goal.into_plain_table-returns
 into_plain_table-returns t c =
-    table_seen _
-    ∙ ap (λ ps. Data.table (entries ps)) c.from_parts.ensures
-    ∙ ap Data.table (entries_seen c.in_ok-moved.moved.items)
-    ∙ ap (λ ps. Data.table (members_of ps)) c.in_ok-moved.ensures
+    values_seen _ c.in_ok-moved.moved.items c.args.rows.items c.from_parts.ensures c.in_ok-moved.ensures
     ∙ sym (few_data c.args.rows.items c.requires)

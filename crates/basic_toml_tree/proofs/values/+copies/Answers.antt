@@ -4,11 +4,13 @@ use Rattle.basic_toml_value.specs.View.{view, entries}
 use Rattle.basic_toml_value.specs.Entries.{texts_of}
 use Rattle.basic_toml_value.proofs.Sizes.{data_size, items_size}
 use Rattle.basic_toml_grow.specs.Plain.{element_data, rows_data}
-use Rattle.basic_toml_tree.specs.Data.{data_of, child_data, table_data, child_pair, value_pair}
+use Rattle.basic_toml_grow.specs.PlainTables.{tables_in}
+use Rattle.basic_toml_tree.specs.Data.{data_of, child_data, table_data, child_pair, value_pair, section_data}
 use Rattle.basic_toml_tree.proofs.DataParts.{items_size-at, items_size-front, items_size-last, members_size-at}
-use Rattle.basic_toml_tree.proofs.DataParts.{mapped_more, array_seen}
-use Rattle.basic_toml_tree.proofs.ItemData.{child_item, plain_elements, rows_item, table_of_pairs, tables_data}
-use Rattle.basic_toml_tree.proofs.ItemData.{table_seen, entries_seen, keys_copied, refused_held, tables_whole}
+use Rattle.basic_toml_tree.proofs.DataParts.{mapped_more, array_seen, sections_seen}
+use Rattle.basic_toml_tree.proofs.ItemData.{child_item, plain_elements, rows_item, sections_item, tables_data}
+use Rattle.basic_toml_tree.proofs.ItemData.{table_of_pairs, table_seen, entries_seen, keys_copied, refused_held}
+use Rattle.basic_toml_tree.proofs.ItemData.{tables_whole}
 use Rattle.basic_toml_tree.proofs.SectionData.{section_rows}
 use Rattle.basic_toml_tree.proofs.values.+copies.Goals as goal
 
@@ -123,3 +125,10 @@ value_of-returns-in_ok-plain_table-in-Section t c =
     table_seen c.in_ok-plain_table-in-Section.field-0
     ∙ c.in_ok-plain_table-in-Section.ensures.table ∙ ap rows_data c.rows-in-Section.ensures.rows
     ∙ sym (ap data_of c.in-Section.is ∙ section_rows c.in-Section.table c.rows-in-Section.ensures.plain)
+
+pub value_of-returns-in_ok-plain_tables-in-Sections : goal.value_of-returns-in_ok-plain_tables-in-Sections
+value_of-returns-in_ok-plain_tables-in-Sections t c =
+    sections_seen c.in_ok-plain_tables-in-Sections.field-0 c.in-Sections.tables.value
+    (c.in_ok-plain_tables-in-Sections.ensures
+    ∙ ap (λ ts. map (λ t. section_data t.1) (tables_in ts)) c.deref-in-Sections.ensures)
+    ∙ sym (ap data_of c.in-Sections.is ∙ sections_item c.in-Sections.tables)

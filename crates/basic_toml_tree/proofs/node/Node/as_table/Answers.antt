@@ -1,11 +1,10 @@
-use Rattle.std.proofs.Common.{◌≡◌, ap, sym, ◌∙◌, rules, subst, true}
+use Rattle.std.proofs.Common.{◌≡◌, ap, sym, ◌∙◌, refl, rules, subst, true}
 use Rattle.basic_toml_read.specs.declared.section.Raw as raws
 use Rattle.basic_toml_grow.specs.Plain.{is_plain, are_few_simple, rows_data}
 use Rattle.basic_toml_grow.proofs.PlainValues.{table_within}
 use Rattle.basic_toml_tree.specs.Data.{data_of}
 use Rattle.basic_toml_tree.specs.Nodes.{spot_data}
 use Rattle.basic_toml_grow.specs.Simple.{section_table}
-use Rattle.basic_toml_grow.specs.declared.item.Child.{out-Child}
 use Rattle.basic_toml_tree.specs.Stands.{HoldsTable}
 use Rattle.basic_toml_tree.specs.declared.spot.HeaderTable.TheVariants as tables
 use Rattle.basic_toml_tree.specs.declared.spot.Spot.TheVariants as spots
@@ -29,19 +28,14 @@ returns-in-Section-clause-data c =
     ∙ section_rows c.in-Section.table c.rows-in-Section.ensures.plain
     ∙ ap rows_data (sym c.rows-in-Section.ensures.rows)
 
--- the rows of a section
-section_here : (c : goal.After-rows) → c.args.self.spot ≡ spots.Table (tables.Section c.in-Table-Section.table)
-section_here c = search rules
-
 pub returns-in-Table-Section-clause-data : goal.returns-in-Table-Section-clause-data
 returns-in-Table-Section-clause-data c =
-    ap spot_data (section_here c)
-    ∙ section_table_data c.in-Table-Section.table c.rows.result.now c.rows.ensures.rows c.rows.ensures.plain
+    let t = c.in-Table-Section.table in
+    let here : c.args.self.spot ≡ spots.Table (tables.Section c.in-Table-Section.table) = search rules in
+    ap spot_data here ∙ section_table_data t.section t.rows.now t.simple
 
 pub returns-in-Table-Section-clause-fields : goal.returns-in-Table-Section-clause-fields
 returns-in-Table-Section-clause-fields c =
-    let table = section_table (out-Child c.in-Table-Section.table.child.now).section c.rows.result.now in (
-      subst (λ spot. HoldsTable spot table) (sym (section_here c))
-          (ap (section_table (out-Child c.in-Table-Section.table.child.now).section) c.rows.ensures.rows),
-      c.rows.ensures.plain,
-    )
+    let t = c.in-Table-Section.table in
+    let here : c.args.self.spot ≡ spots.Table (tables.Section c.in-Table-Section.table) = search rules in
+    (subst (λ spot. HoldsTable spot (section_table t.section t.rows.now)) (sym here) refl, t.simple)

@@ -8,7 +8,7 @@ use Rattle.basic_toml_tree.proofs.node.Node.to_value.Goals as goal
 
 pub returns-in_ok-plain_table-in-Table-Section-clause-ok : goal.returns-in_ok-plain_table-in-Table-Section-clause-ok
 returns-in_ok-plain_table-in-Table-Section-clause-ok c =
+    let t = c.in-Table-Section.table in
     let here : c.args.self.spot ≡ spots.Table (tables.Section c.in-Table-Section.table) = search rules in
     table_seen c.in_ok-plain_table-in-Table-Section.field-0 ∙ c.in_ok-plain_table-in-Table-Section.ensures.table
-    ∙ sym (ap spot_data here
-    ∙ section_table_data c.in-Table-Section.table c.rows.result.now c.rows.ensures.rows c.rows.ensures.plain)
+    ∙ sym (ap spot_data here ∙ section_table_data t.section t.rows.now t.simple)

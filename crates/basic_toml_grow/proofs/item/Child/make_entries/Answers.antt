@@ -1,0 +1,87 @@
+use Rattle.std.proofs.Common.{◌≡◌, true, map, refl, ap, sym, ◌∙◌, subst, Vec, Box, Global}
+use denote.Hole.Carrier.{out}
+use Rattle.basic_toml_read.specs.declared.section.Row.{Row}
+use Rattle.basic_toml_grow.specs.declared.item.Item as items
+use Rattle.basic_toml_grow.specs.declared.item.Item.TheViews.{out-Item}
+use Rattle.basic_toml_grow.specs.declared.item.Child.{out-Child}
+use Rattle.basic_toml_grow.specs.declared.item.Table.{Table}
+use Rattle.basic_toml_grow.specs.Item.{item_trie, table_trie}
+use Rattle.basic_toml_grow.specs.Origins.{item_origins, of_table, table_within}
+use Rattle.basic_toml_grow.specs.Plain.{are_few_simple}
+use Rattle.basic_toml_grow.specs.PlainTables.{SectionTables, have_few_simple}
+use Rattle.basic_toml_grow.specs.Simple.{table_of}
+use Rattle.basic_toml_grow.proofs.ItemTries.{child_item_trie, table_child_trie}
+use Rattle.basic_toml_grow.proofs.SectionTables.{section_origins, section_trie}
+use Rattle.basic_toml_grow.proofs.HeadersEntered.{holding_trie}
+use Rattle.basic_toml_grow.proofs.SectionsUnfolded.{unfolded_origins, unfolded_trie}
+use Rattle.basic_toml_grow.proofs.Origins.HeadersPlaceOrigins.{holding_origins}
+use Rattle.basic_toml_grow.proofs.Origins.OriginsSeen.{child_seen}
+use Rattle.basic_toml_grow.proofs.Origins.RowsPlaceOrigins.{child_of_table}
+use Rattle.basic_toml_grow.proofs.item.Child.make_entries.Goals as goal
+use Rattle.basic_toml_grow.proofs.item.Child.make_entries.Goals.{Joined-self-2, Joined-self-4}
+
+-- the section that stood there
+stood : (c : Joined-self-2) → (out-Child c.args.self.now).item ≡ items.Section c.replace-rows.result.items
+stood c =
+    c.in-Section.is
+    ∙ ap items.Section (sym c.in-Section.table-is ∙ sym c.table.view_is
+    ∙ sym (ap (λ (v : Vec Row Global). v.items) c.replace-rows.ensures.value))
+
+few : (c : Joined-self-2) → are_few_simple 0 c.replace-rows.result.items ≡ true
+few c =
+    subst (λ (v : Vec Row Global). are_few_simple 0 v.items ≡ true) (sym c.replace-rows.ensures.value) c.table.invariant
+
+pub returns-in_ok-table-in-Section-clause-trie : goal.returns-in_ok-table-in-Section-clause-trie
+returns-in_ok-table-in-Section-clause-trie c =
+    let s = c.args.self.now.section in
+    let rows = c.replace-rows.result.items in
+    table_child_trie c.args.self.now.start s c.in_ok-table-in-Section.table
+    ∙ ap table_trie c.in_ok-table-in-Section.ensures
+    ∙ sym (section_trie s rows (few c))
+    ∙ sym (child_item_trie c.args.self.now ∙ ap item_trie (stood c))
+
+pub returns-in_ok-table-in-Section-clause-origins : goal.returns-in_ok-table-in-Section-clause-origins
+returns-in_ok-table-in-Section-clause-origins c =
+    let at = c.args.self.now.start in
+    let s = c.args.self.now.section in
+    let rows = c.replace-rows.result.items in
+    child_of_table c.in_ok-table-in-Section.table at s
+    ∙ ap (λ t. of_table at s (table_within t)) c.in_ok-table-in-Section.ensures
+    ∙ sym (section_origins s rows (few c) at)
+    ∙ sym (child_seen c.args.self.now ∙ ap (λ i. item_origins i at s) (stood c))
+
+-- the array that stood there
+record Unfolds (b : Box SectionTables Global) (made : Box (Vec Table Global × Table) Global) : Type 0 where
+  earlier : made.value.0.items ≡ map table_of b.value.0
+  latest : made.value.1 ≡ table_of b.value.1
+  simple : have_few_simple b.value ≡ true
+
+unfolds : (c : Joined-self-4) → Unfolds c.in-Sections.tables c.in_ok-tables-in-Sections.tables
+unfolding out-Item out
+unfolds c =
+    let made = c.in_ok-tables-in-Sections in
+    let same = c.deref_mut.ensures.value ∙ rw c.in-Sections.is refl in record {
+      earlier = made.ensures.earlier ∙ ap (λ (ts : SectionTables). map table_of ts.0) same;
+      latest = made.ensures.latest ∙ ap (λ (ts : SectionTables). table_of ts.1) same;
+      simple = ap have_few_simple (sym same) ∙ made.ensures.simple;
+    }
+
+pub returns-in_ok-tables-in-Sections-clause-trie : goal.returns-in_ok-tables-in-Sections-clause-trie
+returns-in_ok-tables-in-Sections-clause-trie c =
+    let b = c.in-Sections.tables in
+    let made = c.in_ok-tables-in-Sections.tables in
+    let are = unfolds c in
+    holding_trie c.args.self.now (items.Tables made)
+    ∙ unfolded_trie b made are.earlier are.latest are.simple
+    ∙ sym (child_item_trie c.args.self.now ∙ ap item_trie c.in-Sections.is)
+
+pub returns-in_ok-tables-in-Sections-clause-origins : goal.returns-in_ok-tables-in-Sections-clause-origins
+returns-in_ok-tables-in-Sections-clause-origins c =
+    let at = c.args.self.now.start in
+    let s = c.args.self.now.section in
+    let b = c.in-Sections.tables in
+    let made = c.in_ok-tables-in-Sections.tables in
+    let are = unfolds c in
+    holding_origins c.args.self.now (items.Tables made)
+    ∙ unfolded_origins b made are.earlier are.latest are.simple at s
+    ∙ sym (child_seen c.args.self.now ∙ ap (λ i. item_origins i at s) c.in-Sections.is)
