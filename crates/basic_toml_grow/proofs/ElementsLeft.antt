@@ -13,14 +13,15 @@ use Rattle.basic_toml_grammar.specs.Trie.{Trie}
 use Rattle.basic_toml_read.specs.SectionView.{raw_of, placed_of, elements_view}
 use Rattle.basic_toml_read.specs.declared.section.Raw as raws
 use Rattle.basic_toml_read.specs.declared.section.Element as elements
+use Rattle.basic_toml_plain.specs.Tries.{tree_data}
 use Rattle.basic_toml_grow.specs.declared.item.Child.{Child}
-use Rattle.basic_toml_grow.specs.Item.{tree_data, child_trie}
+use Rattle.basic_toml_grow.specs.Item.{child_trie}
 use Rattle.basic_toml_grow.specs.Rows.{IsFinished, AreFinished}
 use Rattle.basic_toml_grow.specs.declared.clash.Clash.{Clash}
 use Rattle.basic_toml_grow.specs.Clash.{Obstacle, NamesObstacle}
 use Rattle.basic_toml_grow.specs.Obstacles.{value_obstacle, elements_obstacle}
 use Rattle.basic_toml_grow.proofs.NoObstacles.{value_free}
-use Rattle.basic_toml_grow.proofs.RowsHaveKeys.{every_element}
+use Rattle.basic_toml_read.proofs.RowsHaveKeys.{every_element}
 use Rattle.basic_toml_grammar.specs.Entering.{value_keyed}
 use Rattle.basic_toml_grow.proofs.ObstaclesPassOn.{passed_on}
 

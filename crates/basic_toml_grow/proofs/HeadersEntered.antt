@@ -7,9 +7,10 @@ use Rattle.std.specs.List.{slice_get}
 use Rattle.basic_toml_value.specs.Data.{Data, items_of}
 use Rattle.basic_toml_grammar.specs.Sections.{KeyTexts, Rows}
 use Rattle.basic_toml_grammar.specs.Mentions.{finished}
-use Rattle.basic_toml_grow.specs.Plain.{plain_array, plain_table}
 use Rattle.basic_toml_grammar.specs.Trie.{Trie, no_tries, walk, steps_to, among, find}
 use Rattle.basic_toml_grammar.specs.Steps.{key}
+use Rattle.basic_toml_plain.specs.Plain.{plain_array, plain_table}
+use Rattle.basic_toml_plain.specs.Tries.{tree_data, leaf, by_keys}
 use Rattle.basic_toml_grow.specs.declared.clash.Clash.{Clash}
 use Rattle.basic_toml_grow.specs.declared.item.Item.{the_lemmas, Tables}
 use Rattle.basic_toml_grow.specs.declared.item.Item as items
@@ -18,7 +19,7 @@ use Rattle.basic_toml_grow.specs.declared.item.Item.TheViews.{roll-Item, out-Ite
 use Rattle.basic_toml_grow.specs.declared.item.Child.{Child, out-Child}
 use Rattle.basic_toml_grow.specs.declared.item.Table.{Table, out-Table}
 use Rattle.std.proofs.lemmas.Bool.{false≢true}
-use Rattle.basic_toml_grow.specs.Item.{item_trie, child_trie, table_trie, tree_data, leaf, by_keys, trie_before}
+use Rattle.basic_toml_grow.specs.Item.{item_trie, child_trie, table_trie, trie_before}
 use Rattle.basic_toml_grow.specs.Item.{holds_section, is_section}
 use Rattle.basic_toml_value.specs.Growth.{FindsOrAdds, with_value, values_of}
 use Rattle.basic_toml_value.specs.declared.pairs.growth.Place.{Place}

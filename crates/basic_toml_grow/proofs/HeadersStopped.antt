@@ -1,6 +1,6 @@
 -- What a header meets first on its way through tables is what its steps name.
 use Rattle.std.proofs.Common.{◌≡◌, ℕ, suc, ◌+◌, ◌<◌, ◌≤◌, Bool, true, false, cond, nat_lt, List, [], ◌∷◌, ◌++◌}
-use Rattle.std.proofs.Common.{length, map, inr}
+use Rattle.std.proofs.Common.{length, map}
 use Rattle.std.proofs.Common.{Option, Some, None, refl, ap, sym, ◌∙◌, arith, nat_eq, Vec, Box, Global}
 use Rattle.std.specs.Option.{option_or}
 use Rattle.std.proofs.lemmas.Bool.{ltb-true}
@@ -11,19 +11,20 @@ use Rattle.basic_toml_value.specs.Nesting.{nesting_limit}
 use Rattle.basic_toml_grammar.specs.Sections.{KeyTexts, Rows}
 use Rattle.basic_toml_grammar.specs.Steps.{key, number}
 use Rattle.basic_toml_grammar.specs.Standing as standing
-use Rattle.basic_toml_grammar.specs.Trie.{Trie, Tries, nothing, find, count, steps_to, steps_on, put_element}
+use Rattle.basic_toml_grammar.specs.Trie.{Trie, Tries, nothing, find, count, steps_to, steps_on}
 use Rattle.basic_toml_grammar.specs.Stops.{Stop, at_header, is_named, is_passed, header_stop}
 use Rattle.basic_toml_grammar.specs.Marks.{added}
+use Rattle.basic_toml_plain.specs.Tries.{by_keys, leaf}
 use Rattle.basic_toml_grow.specs.Clash.{Obstacle, too_deep, in_the_way, NamesObstacle}
 use Rattle.basic_toml_grow.specs.declared.clash.Clash.TheVariants.{Header, Named, Redefined}
 use Rattle.basic_toml_grow.specs.declared.item.Item.{Tables}
 use Rattle.basic_toml_grow.specs.declared.item.Item as items
 use Rattle.basic_toml_grow.specs.declared.item.Child.{Child}
 use Rattle.basic_toml_grow.specs.declared.item.Table.{Table, out-Table}
-use Rattle.basic_toml_grow.specs.Item.{item_trie, child_trie, table_trie, by_keys, by_numbers, leaf, trie_before}
+use Rattle.basic_toml_grow.specs.Item.{item_trie, child_trie, table_trie, by_numbers, trie_before}
 use Rattle.basic_toml_value.specs.declared.pairs.growth.Place.{Place}
 use Rattle.basic_toml_grow.specs.Obstacles.{above, table_obstacle, element_obstacle, keys_obstacle}
-use Rattle.basic_toml_grow.specs.Headers.{highest, steps_by, IsKeptOut, obstacle_by, obstacle_at, table_clash}
+use Rattle.basic_toml_grow.specs.Headers.{highest, steps_by, obstacle_by, obstacle_at, table_clash}
 use Rattle.basic_toml_grow.proofs.HeadersEntered.{Passes, passed_before}
 use Rattle.basic_toml_grow.proofs.KeysInATrie.{tries_of}
 use Rattle.basic_toml_grow.proofs.ItemTries.{table_entries_trie}

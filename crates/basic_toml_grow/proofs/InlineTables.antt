@@ -8,10 +8,11 @@ use Rattle.basic_toml_grammar.specs.Entering.{rows_keyed}
 use Rattle.basic_toml_grammar.specs.Standing as standings
 use Rattle.basic_toml_grammar.specs.Trie.{Trie, trie, no_tries, put_rows}
 use Rattle.basic_toml_grammar.proofs.Tries.RowsInATrie.{rows_put, inline_data}
+use Rattle.basic_toml_plain.specs.Tries.{leaf, tree_data}
 use Rattle.basic_toml_grow.specs.declared.item.Item as items
 use Rattle.basic_toml_grow.specs.declared.item.Table.{Table}
 use Rattle.basic_toml_grow.specs.declared.clash.Clash.{Clash}
-use Rattle.basic_toml_grow.specs.Item.{leaf, tree_data, item_trie, table_trie}
+use Rattle.basic_toml_grow.specs.Item.{item_trie, table_trie}
 use Rattle.basic_toml_grow.specs.Rows.{AreIn, AreKeptOut, Reason, memory, deep, crossed, reason}
 use Rattle.basic_toml_grow.specs.Rows.{IsFinished, IsUnfinished}
 use Rattle.basic_toml_grow.proofs.Reasons.{KeptFor, for_kept, UnfinishedFor, unfinished_for}

@@ -2,12 +2,13 @@
 use Rattle.std.proofs.Common.{◌≡◌, List, ℕ, Some, None, Box, Global, rules}
 use Rattle.basic_toml_grammar.specs.Standing as standings
 use Rattle.basic_toml_grammar.specs.Trie.{trie, standing}
+use Rattle.basic_toml_plain.specs.Tries.{by_keys}
 use Rattle.basic_toml_grow.specs.declared.item.Item.{the_lemmas}
 use Rattle.basic_toml_grow.specs.declared.item.Item as items
 use Rattle.basic_toml_grow.specs.declared.item.Item.TheViews.{roll-Child}
 use Rattle.basic_toml_grow.specs.declared.item.Child.{Child, out-Child}
 use Rattle.basic_toml_grow.specs.declared.item.Table.{Table, out-Table}
-use Rattle.basic_toml_grow.specs.Item.{item_trie, child_trie, table_trie, by_keys}
+use Rattle.basic_toml_grow.specs.Item.{item_trie, child_trie, table_trie}
 use Rattle.basic_toml_grow.specs.Simple.{with_entries}
 use Rattle.basic_toml_grow.proofs.KeysInATrie.{tries_of}
 

@@ -12,7 +12,8 @@ use Rattle.basic_toml_value.specs.Pairs.{keys_of, has_key}
 use Rattle.basic_toml_index.proofs.DistinctKeys.{bytes_eq-same, bytes_eq_other}
 use Rattle.basic_toml_grammar.specs.Steps as steps
 use Rattle.basic_toml_grammar.specs.Trie.{Trie, nothing, among, find}
-use Rattle.basic_toml_grow.specs.Item.{by_keys, trie_before}
+use Rattle.basic_toml_plain.specs.Tries.{by_keys}
+use Rattle.basic_toml_grow.specs.Item.{trie_before}
 use Rattle.basic_toml_value.specs.Growth.{with_value, values_of, FindsOrAdds}
 use Rattle.basic_toml_value.specs.declared.pairs.growth.Place.{Place}
 

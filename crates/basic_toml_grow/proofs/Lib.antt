@@ -1,4 +1,3 @@
-pub mod WhatIsLeft
 pub mod CrossedIsFault
 pub mod FirstGathered
 pub mod RowIsFollowed
@@ -8,11 +7,6 @@ pub mod RowsOfKeys
 pub mod KeyTreeGrows
 pub mod ValuesOnTheWay
 pub mod HeadersNamed
-pub mod PlainParts
-pub mod PlainSeen
-pub mod LoneRows
-pub mod PlainValues
-pub mod SimpleKeys
 pub mod HeadersEntered
 pub mod HeadersInATrie
 pub mod HeadersStopped
@@ -35,12 +29,10 @@ pub mod ElementsLeft
 pub mod PlainArrays
 pub mod SimpleRows
 pub mod SectionTables
-pub mod PartsOfRows
 pub mod SectionsEntered
 pub mod SectionsAdded
 pub mod SectionsUnfolded
 pub mod RowsAfter
 pub mod LatestInATrie
-pub mod RowsHaveKeys
 pub mod TablesOpened
 pub mod Origins

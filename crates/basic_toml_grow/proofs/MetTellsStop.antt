@@ -17,6 +17,8 @@ use Rattle.basic_toml_grammar.proofs.Tries.StopsByPath.{path_here, path_stop}
 use Rattle.basic_toml_grammar.proofs.Tries.StopsForgotten.{goes, left_here}
 use Rattle.basic_toml_read.specs.declared.section.Key as code_keys
 use Rattle.basic_toml_read.specs.SectionView.{key_of}
+use Rattle.basic_toml_plain.specs.Tries.{row_trie, rows_trie, by_keys}
+use Rattle.basic_toml_plain.specs.PlainTables.{SectionTables}
 use Rattle.basic_toml_grow.specs.declared.item.Item as items
 use Rattle.basic_toml_grow.specs.declared.item.Child.{Child, out-Child}
 use Rattle.basic_toml_grow.specs.declared.item.Item.{the_lemmas}
@@ -26,13 +28,12 @@ use Rattle.basic_toml_grow.specs.declared.item.Table.{Table, out-Table, roll-Tab
 use Rattle.basic_toml_grow.specs.declared.met.Met.{Met}
 use Rattle.basic_toml_grow.specs.declared.met.Met.TheVariants as mets
 use Rattle.basic_toml_read.specs.declared.section.Row.{Row}
-use Rattle.basic_toml_grow.specs.Item.{child_trie, table_trie, item_trie, row_trie, rows_trie, by_keys, by_numbers, empty_table, trie_before}
+use Rattle.basic_toml_grow.specs.Item.{child_trie, table_trie, item_trie, by_numbers, empty_table, trie_before}
 use Rattle.basic_toml_value.specs.Growth.{values_of, FindsOrAdds}
 use Rattle.basic_toml_value.specs.declared.pairs.growth.Place.{Place}
 use Rattle.basic_toml_grow.specs.RowStops.{key_at, StopsAtKey, TellsStop, TellsLast, TellsRow, TellsExtended}
 use Rattle.basic_toml_grow.proofs.KeysInATrie.{tries_of, stood_there}
 use Rattle.basic_toml_grow.proofs.ItemTries.{child_item_trie, table_entries_trie}
-use Rattle.basic_toml_grow.specs.PlainTables.{SectionTables}
 use Rattle.basic_toml_grow.proofs.TablesOpened.{section_item_trie, sections_trie, table_item_trie, tables_trie}
 
 none_after : {A : Type 0} (xs : List A) → xs ++ [] ≡ xs

@@ -10,12 +10,13 @@ use Rattle.basic_toml_read.specs.declared.section.Element.{Element}
 use Rattle.basic_toml_read.specs.declared.section.Row.{Row}
 use Rattle.basic_toml_read.specs.SectionView.{raw_of}
 use Rattle.basic_toml_read.proofs.ViewsSeen.{array_of}
-use Rattle.basic_toml_grow.specs.Plain.{are_plain, are_simple, are_few_simple, plain_array, plain_table}
-use Rattle.basic_toml_grow.proofs.PlainSeen.{inline_of}
-use Rattle.basic_toml_grow.proofs.PlainValues.{all_plain, all_simple}
+use Rattle.basic_toml_plain.specs.Plain.{are_plain, are_simple, are_few_simple, plain_array, plain_table}
+use Rattle.basic_toml_plain.specs.Tries.{leaf}
+use Rattle.basic_toml_plain.proofs.PlainSeen.{inline_of}
+use Rattle.basic_toml_plain.proofs.PlainValues.{all_plain, all_simple}
 use Rattle.basic_toml_grow.specs.declared.item.Item.{Plain, the_lemmas}
 use Rattle.basic_toml_grow.specs.declared.item.Item as items
-use Rattle.basic_toml_grow.specs.Item.{item_trie, leaf}
+use Rattle.basic_toml_grow.specs.Item.{item_trie}
 use Rattle.basic_toml_grow.specs.Rows.{IsFinished}
 
 -- arrays

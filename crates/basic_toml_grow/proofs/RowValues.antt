@@ -14,9 +14,9 @@ use Rattle.basic_toml_read.specs.SectionView.{key_of, header_texts, lined_of, ra
 use Rattle.basic_toml_read.specs.declared.section.Key as keys
 use Rattle.basic_toml_read.specs.declared.section.Raw as raws
 use Rattle.basic_toml_read.specs.declared.section.Row as lines
+use Rattle.basic_toml_plain.specs.Tries.{leaf}
 use Rattle.basic_toml_grow.specs.declared.clash.Clash.{Clash}
 use Rattle.basic_toml_grow.specs.declared.met.Met.{Met}
-use Rattle.basic_toml_grow.specs.Item.{leaf}
 use Rattle.basic_toml_grow.specs.Rows.{AreIn, AreKeptOut, one_row, Reason, memory, deep, crossed, reason}
 use Rattle.basic_toml_grow.specs.Rows.{met_reason, Enters, IsFinished, IsUnfinished}
 use Rattle.basic_toml_grow.proofs.Reasons.{KeptFor, kept_for, UnfinishedFor, for_unfinished, kept_for_met}
@@ -26,7 +26,7 @@ use Rattle.basic_toml_grow.specs.Obstacles.{and_behind, held_obstacle, value_obs
 use Rattle.basic_toml_grow.proofs.NoObstacles.{value_free}
 use Rattle.basic_toml_grow.proofs.ObstaclesPassOn.{passed_on, behind_low, behind_high}
 use Rattle.basic_toml_grow.specs.RowStops.{key_at, TellsRow, SaysMet, SaysHeld}
-use Rattle.basic_toml_grow.proofs.RowsHaveKeys.{every_row}
+use Rattle.basic_toml_read.proofs.RowsHaveKeys.{every_row}
 use Rattle.basic_toml_grow.proofs.RowsLeft.{clash_alone, then_same}
 
 kept_by_value : (ks : List Key) (at : ℕ) (v : Raw) (level last : ℕ) (before : Trie) (why : Reason)

@@ -9,10 +9,9 @@ use Rattle.basic_toml_grammar.specs.Steps.{steps_of}
 use Rattle.basic_toml_grammar.specs.RowClash.{rows_clash, value_clashes, any_overlaps}
 use Rattle.basic_toml_grammar.specs.Trie.{Trie, put_rows}
 use Rattle.basic_toml_grammar.proofs.Tries.RowsThatOverlapAreRefused.{values_clash, put_apart}
+use Rattle.basic_toml_plain.specs.Plain.{key_of, are_simple, are_all_plain}
 use Rattle.basic_toml_grow.specs.Clash.{Obstacle, NamesObstacle}
 use Rattle.basic_toml_grow.specs.Obstacles.{rows_obstacle}
-use Rattle.basic_toml_grow.specs.Plain.{key_of, are_simple}
-use Rattle.basic_toml_grow.specs.Simple.{are_all_plain}
 use Rattle.basic_toml_grow.specs.declared.clash.Clash.{Clash}
 use Rattle.basic_toml_read.specs.SectionView.{rows_seen}
 use Rattle.basic_toml_read.specs.declared.section.Row.{Row}
@@ -23,7 +22,7 @@ use Rattle.basic_toml_grow.specs.Simple.{entries_of, with_entries}
 use Rattle.basic_toml_grow.specs.Rows.{AreIn, AreKeptOut, EntersRows, Reason, memory, deep, crossed, reason}
 use Rattle.basic_toml_grow.proofs.Reasons.{KeptFor, kept_for, for_kept}
 use Rattle.basic_toml_grow.proofs.RowsLeft.{AreLeft}
-use Rattle.basic_toml_grow.proofs.RowsHaveKeys.{rows_are_keyed}
+use Rattle.basic_toml_read.proofs.RowsHaveKeys.{rows_are_keyed}
 use Rattle.basic_toml_grow.proofs.Origins.OriginsLeft.{OriginsLeft}
 use Rattle.basic_toml_grow.proofs.SimpleRows.{first_simple, others_left, others_come}
 

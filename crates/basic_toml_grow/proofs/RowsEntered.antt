@@ -15,12 +15,13 @@ use Rattle.basic_toml_read.specs.SectionView.{header_texts, lined_of}
 use Rattle.basic_toml_read.specs.declared.section.Key as keys
 use Rattle.basic_toml_read.specs.declared.section.Raw.{the_lemmas}
 use Rattle.basic_toml_read.specs.declared.section.Row.{Row, out-Row}
+use Rattle.basic_toml_plain.specs.Tries.{by_keys}
 use Rattle.basic_toml_grow.specs.declared.item.Child.{Child}
 use Rattle.basic_toml_grow.specs.declared.item.Table.{Table, out-Table}
 use Rattle.basic_toml_grow.specs.declared.met.Met.{Met}
 use Rattle.basic_toml_grow.specs.declared.met.Met.TheVariants as mets
 use Rattle.basic_toml_grow.specs.Simple.{with_entries}
-use Rattle.basic_toml_grow.specs.Item.{child_trie, table_trie, by_keys, trie_before}
+use Rattle.basic_toml_grow.specs.Item.{child_trie, table_trie, trie_before}
 use Rattle.basic_toml_value.specs.Growth.{with_value, values_of, FindsOrAdds}
 use Rattle.basic_toml_value.specs.declared.pairs.growth.Place.{Place}
 use Rattle.basic_toml_grow.specs.Rows.{Enters}

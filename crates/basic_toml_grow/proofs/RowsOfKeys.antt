@@ -1,15 +1,14 @@
 -- What is crossed within the values of rows, elements and sections, one after another.
-use Rattle.std.proofs.Common.{◌≡◌, ℕ, List, [], ◌∷◌, refl, ap, ◌∙◌, map, drop, Option, rules}
+use Rattle.std.proofs.Common.{◌≡◌, ℕ, List, [], ◌∷◌, refl, ap, ◌∙◌, map, drop, Option}
 use Rattle.std.specs.Option.{option_or}
-use Rattle.basic_toml_read.specs.declared.section.Raw.{the_lemmas}
-use Rattle.basic_toml_read.specs.declared.section.Element.{Element, out-Element}
+use Rattle.basic_toml_read.specs.declared.section.Element.{Element}
 use Rattle.basic_toml_read.specs.declared.section.Key as keys
 use Rattle.basic_toml_read.specs.declared.section.Row.{Row}
 use Rattle.basic_toml_read.specs.declared.section.Rows.{out-Rows}
 use Rattle.basic_toml_read.specs.declared.section.Section as code
 use Rattle.basic_toml_grammar.specs.Sections.{Key, Section}
 use Rattle.basic_toml_read.specs.SectionView.{Lined, Placed, key_of, rows_from, elements_from}
-use Rattle.basic_toml_read.specs.SectionView.{raw_of, placed_of, lined_of, elements_view, rows_seen, section_of}
+use Rattle.basic_toml_read.specs.SectionView.{placed_of, lined_of, elements_view, rows_seen, section_of}
 use Rattle.basic_toml_grow.specs.Crossed.{crossed_of, crossed_among, crossed_within, crossed_in, first_crossed}
 use Rattle.basic_toml_grow.proofs.FirstGathered.{first_in}
 
@@ -33,10 +32,6 @@ first_of_map f v (x ∷ xs) = ap (λ o. option_or (f (v x)) o) (first_of_map f v
 first_of_sections : (ss : List Section) → first_crossed ss ≡ first_in (λ s. crossed_in s.rows) ss
 first_of_sections [] = refl
 first_of_sections (s ∷ ss) = ap (λ o. option_or (crossed_in s.rows) o) (first_of_sections ss)
-
-pub placed_is : (e : Element)
-    → placed_of e ≡ record { offset = (out-Element e).offset; value = raw_of (out-Element e).value }
-placed_is e = search (rules, the_lemmas)
 
 pub row_values : (parents : List keys.Key) (rs : List Row)
     → crossed_within (rows_seen parents rs) ≡ first_in (λ r. crossed_of (lined_of r).value) rs

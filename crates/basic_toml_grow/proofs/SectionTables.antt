@@ -1,26 +1,25 @@
 -- The rows of a section, as they were read, and the table that they stand for.
-use Rattle.std.proofs.Common.{◌≡◌, ℕ, true, false, List, [], ◌∷◌, map, length, refl, ap, ap₂, sym, ◌∙◌}
-use Rattle.std.proofs.Common.{rules, Some, None, nat_le, arith}
+use Rattle.std.proofs.Common.{◌≡◌, ℕ, true, false, List, [], ◌∷◌, map, refl, ap, ap₂, sym, ◌∙◌}
+use Rattle.std.proofs.Common.{rules, Some, None, arith}
 use Rattle.std.proofs.Math.Path.{fun_ext}
-use Rattle.std.proofs.lemmas.Bool.{and_parts}
-use Rattle.basic_toml_index.specs.Index.{few}
 use Rattle.basic_toml_grammar.specs.Standing as standings
 use Rattle.basic_toml_grammar.specs.Steps.{key, number, Path}
 use Rattle.basic_toml_grammar.specs.Trie.{Trie, trie}
 use Rattle.basic_toml_read.specs.declared.section.Row.{Row, out-Row}
 use Rattle.basic_toml_read.specs.SectionView.{raw_of, rows_seen}
-use Rattle.basic_toml_grow.specs.Plain.{are_simple, are_few_simple, key_of, plain_data, is_plain}
-use Rattle.basic_toml_grow.specs.Simple.{are_all_plain, child_of, entries_of, section_table, with_entries}
+use Rattle.basic_toml_plain.specs.Plain.{are_few_simple, key_of, plain_data, is_plain, are_all_plain}
+use Rattle.basic_toml_plain.specs.Tries.{by_keys, leaf, row_trie}
+use Rattle.basic_toml_plain.proofs.SimpleKeys.{few_are_plain, few_are_simple, first_plain, others_plain}
+use Rattle.basic_toml_grow.specs.Simple.{child_of, entries_of, section_table, with_entries}
 use Rattle.basic_toml_grow.specs.declared.item.Item.{the_lemmas}
 use Rattle.basic_toml_grow.specs.declared.item.Item as items
 use Rattle.basic_toml_grow.specs.declared.item.Table.{Table, out-Table}
-use Rattle.basic_toml_grow.specs.Item.{item_trie, child_trie, table_trie, by_keys, leaf, row_trie}
+use Rattle.basic_toml_grow.specs.Item.{item_trie, child_trie, table_trie}
 use Rattle.basic_toml_grow.specs.Origins.{Origins, no_origins, at_keys, child_origins, item_origins, of_table}
 use Rattle.basic_toml_grow.specs.Origins.{or_else, rows_origins, table_within, value_origins, with_more}
 use Rattle.basic_toml_grow.proofs.ItemTries.{table_entries_trie}
 use Rattle.basic_toml_grow.proofs.KeysInATrie.{tries_of}
-use Rattle.basic_toml_grow.proofs.SimpleKeys.{simple_are_plain}
-use Rattle.basic_toml_grow.proofs.SimpleRows.{child_comes, child_item, first_plain, item_comes, item_is, others_plain, rows_come}
+use Rattle.basic_toml_grow.proofs.SimpleRows.{child_comes, child_item, item_comes, item_is, rows_come}
 use Rattle.basic_toml_grow.proofs.TablesOpened.{section_item_trie}
 use Rattle.basic_toml_grow.proofs.Origins.OriginsSeen.{section_item_seen, table_seen}
 use Rattle.basic_toml_grow.proofs.Origins.RowsPlaceOrigins.{within}
@@ -42,13 +41,6 @@ rows_tries s (r ∷ rs) plain =
     ap₂ (λ p ps. p ∷ ps)
     (ap (λ (t : Trie). (key_of r, t)) (sym (row_child_trie s r (first_plain 0 r rs plain))))
     (rows_tries s rs (others_plain 0 r rs plain))
-
--- few and simple rows
-pub few_are_simple : (l : ℕ) (rows : List Row) → are_few_simple l rows ≡ true → are_simple l rows ≡ true
-few_are_simple l rows are = (and_parts (nat_le (length rows) few) (are_simple l rows) are).1
-
-pub few_are_plain : (l : ℕ) (rows : List Row) → are_few_simple l rows ≡ true → are_all_plain l rows ≡ true
-few_are_plain l rows are = simple_are_plain l rows (few_are_simple l rows are)
 
 -- the parts of the table that rows stand for
 module _ (s : ℕ) (rows : List Row) where

@@ -1,23 +1,23 @@
 -- A table that is added to an array of tables, whose rows stay as they were read.
 use Rattle.std.proofs.Common.{◌≡◌, ◌≤◌, ◌+◌, ℕ, suc, true, false, List, [], ◌∷◌, ◌++◌, map, length, refl, ap, sym, ◌∙◌}
 use Rattle.std.proofs.Common.{ap₂, arith, Bool, nat_eq, option_map, subst, Box, Global, Ok, Some}
-use Rattle.std.specs.Prelude.{◌&&◌}
 use Rattle.std.proofs.lemmas.Bool.{and_parts, false≢true}
-use Rattle.std.proofs.lemmas.List.{length-map, map-append}
+use Rattle.std.proofs.lemmas.List.{map-append}
 use Rattle.basic_toml_value.specs.Nesting.{nesting_limit}
 use Rattle.basic_toml_grammar.specs.Sections.{Rows}
-use Rattle.basic_toml_grammar.specs.Steps.{Step, key, number, Path, begins}
+use Rattle.basic_toml_grammar.specs.Steps.{Step, key, number, Path}
 use Rattle.basic_toml_grammar.specs.Trie.{Trie, nothing, count, put_element, put_table}
 use Rattle.basic_toml_read.specs.declared.section.Row.{Row}
 use Rattle.basic_toml_read.specs.SectionView.{rows_seen}
+use Rattle.basic_toml_plain.specs.Tries.{rows_trie}
+use Rattle.basic_toml_plain.specs.Plain.{are_few_simple}
+use Rattle.basic_toml_plain.specs.PlainTables.{SectionTable, SectionTables, tables_in, with_table}
 use Rattle.basic_toml_grow.specs.declared.item.Item as items
 use Rattle.basic_toml_grow.specs.declared.item.Child.{Child, out-Child}
-use Rattle.basic_toml_grow.specs.Item.{child_trie, item_trie, rows_trie, trie_before}
+use Rattle.basic_toml_grow.specs.Item.{child_trie, item_trie, trie_before}
 use Rattle.basic_toml_grow.specs.Headers.{EntersItem, IsIn, entered_at}
-use Rattle.basic_toml_grow.specs.Origins.{Origins, array_origin, at_numbers, entry, item_origins, no_origins, rows_origins}
+use Rattle.basic_toml_grow.specs.Origins.{Origins, array_origin, at_numbers, item_origins, no_origins, rows_origins}
 use Rattle.basic_toml_grow.specs.Origins.{child_origins, origins_before, section_origins, table_origin, under}
-use Rattle.basic_toml_grow.specs.Plain.{are_few_simple}
-use Rattle.basic_toml_grow.specs.PlainTables.{SectionTable, SectionTables, tables_in, with_table}
 use Rattle.basic_toml_grow.specs.Ways.{GrowsAlong, IsMarked, MarksWay, way_at}
 use Rattle.basic_toml_grow.proofs.HeadersInATrie.{array_of, fresh, is_in, put_first, put_next, walk_fresh}
 use Rattle.basic_toml_grow.proofs.SectionsEntered.{section_entered}

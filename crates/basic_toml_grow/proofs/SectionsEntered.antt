@@ -7,6 +7,9 @@ use Rattle.basic_toml_grammar.specs.Sections.{Rows}
 use Rattle.basic_toml_grammar.specs.Trie.{Trie, nothing, steps_to, walk}
 use Rattle.basic_toml_read.specs.declared.section.Row.{Row}
 use Rattle.basic_toml_read.specs.SectionView.{rows_seen}
+use Rattle.basic_toml_plain.specs.Plain.{are_few_simple}
+use Rattle.basic_toml_plain.proofs.PlainValues.{few_lower}
+use Rattle.basic_toml_plain.proofs.SimpleKeys.{few_are_simple}
 use Rattle.basic_toml_grow.specs.declared.item.Item.{the_lemmas}
 use Rattle.basic_toml_grow.specs.declared.item.Item as items
 use Rattle.basic_toml_grow.specs.declared.item.Item.TheViews.{roll-Table}
@@ -14,7 +17,6 @@ use Rattle.basic_toml_grow.specs.declared.item.Table.{Table, out-Table}
 use Rattle.basic_toml_grow.specs.Item.{item_trie, table_trie}
 use Rattle.basic_toml_grow.specs.Headers.{EntersItem, entered_at, steps_at}
 use Rattle.basic_toml_grow.specs.Origins.{item_origins, no_origins, rows_origins}
-use Rattle.basic_toml_grow.specs.Plain.{are_few_simple}
 use Rattle.basic_toml_grow.specs.Rows.{AreIn}
 use Rattle.basic_toml_grow.specs.Simple.{entries_of, section_table, with_entries}
 use Rattle.basic_toml_grow.specs.Ways.{GrowsAlong, IsMarked, MarksWay}
@@ -22,8 +24,7 @@ use Rattle.basic_toml_grow.proofs.HeadersEntered.{item_by, same_mapped}
 use Rattle.basic_toml_grow.proofs.HeadersInATrie.{fresh, steps_fresh, walk_fresh}
 use Rattle.basic_toml_grow.proofs.ItemTries.{table_entries_trie}
 use Rattle.basic_toml_grow.proofs.KeysInATrie.{tries_of}
-use Rattle.basic_toml_grow.proofs.PlainValues.{few_lower}
-use Rattle.basic_toml_grow.proofs.SectionTables.{few_are_simple, section_trie}
+use Rattle.basic_toml_grow.proofs.SectionTables.{section_trie}
 use Rattle.basic_toml_grow.proofs.SimpleRows.{rows_in}
 use Rattle.basic_toml_grow.proofs.TablesOpened.{open_named, opened_table}
 use Rattle.basic_toml_grow.proofs.Origins.OriginsSeen.{section_item_seen}

@@ -4,18 +4,16 @@ use Rattle.std.specs.List.{list_all}
 use Rattle.std.proofs.lemmas.Bool.{and_parts}
 use Rattle.std.proofs.lemmas.List.{map-append}
 use Rattle.std.proofs.lemmas.List.Folds.{list_all-append}
-use Rattle.basic_toml_grammar.specs.Trie.{Trie}
-use Rattle.basic_toml_read.specs.declared.section.Row.{Row}
-use Rattle.basic_toml_read.specs.SectionView.{rows_seen}
+use Rattle.basic_toml_plain.specs.Tries.{rows_trie}
+use Rattle.basic_toml_plain.specs.Plain.{are_few_simple}
+use Rattle.basic_toml_plain.specs.PlainTables.{SectionTable, SectionTables, have_few_simple}
 use Rattle.basic_toml_grow.specs.declared.item.Item.{Tables}
 use Rattle.basic_toml_grow.specs.declared.item.Item as items
 use Rattle.basic_toml_grow.specs.declared.item.Table.{Table}
-use Rattle.basic_toml_grow.specs.Item.{item_trie, rows_trie, table_trie}
-use Rattle.basic_toml_grow.specs.Origins.{Origins, array_origin, at_numbers, elements_within, entry, item_origins, of_table}
+use Rattle.basic_toml_grow.specs.Item.{item_trie, table_trie}
+use Rattle.basic_toml_grow.specs.Origins.{array_origin, at_numbers, entry, item_origins, of_table}
 use Rattle.basic_toml_grow.specs.Origins.{section_origins, table_within}
-use Rattle.basic_toml_grow.specs.Plain.{are_few_simple}
-use Rattle.basic_toml_grow.specs.PlainTables.{SectionTable, SectionTables, have_few_simple}
-use Rattle.basic_toml_grow.specs.Simple.{section_table, table_of}
+use Rattle.basic_toml_grow.specs.Simple.{table_of}
 use Rattle.basic_toml_grow.proofs.HeadersInATrie.{array_of}
 use Rattle.basic_toml_grow.proofs.SectionTables.{section_trie, section_within}
 use Rattle.basic_toml_grow.proofs.TablesOpened.{section_item_trie, sections_trie, tables_trie}

@@ -1,14 +1,10 @@
 -- Simple rows, put into a table one after another: they become its entries.
 use Rattle.std.proofs.Common.{◌≡◌, ◌==◌, ◌≤◌, ℕ, ◌+◌, Bool, true, false, ◌||◌, List, [], ◌∷◌, ◌++◌, length, map, Some}
-use Rattle.std.proofs.Common.{arith, suc, take, drop, refl, sym, ap, ◌∙◌, subst, rules, ap₂, append_assoc, slice_get}
+use Rattle.std.proofs.Common.{arith, suc, take, drop, refl, sym, ap, ◌∙◌, subst, rules, append_assoc, slice_get}
 use Rattle.std.specs.Str.{bytes_eq}
 use Rattle.std.proofs.lemmas.Bool.{false≢true}
 use Rattle.std.proofs.lemmas.List.{append-nil, map-append, take-append-drop, take-map}
 use Rattle.std.proofs.lemmas.Slice.Eq.{bytes_eq-Decides}
-use Rattle.basic_toml_value.specs.Text.{text_bytes}
-use Rattle.basic_toml_value.specs.declared.text.Text.{Text}
-use Rattle.basic_toml_value.specs.Entries.{pair_seen}
-use Rattle.basic_toml_read.specs.KeyText.{key_text_bytes}
 use Rattle.basic_toml_index.specs.Keys.{is_among, are_distinct}
 use Rattle.basic_toml_value.specs.Nesting.{nesting_limit}
 use Rattle.basic_toml_value.specs.Pairs.{keys_of, has_key}
@@ -27,24 +23,23 @@ use Rattle.basic_toml_read.specs.declared.section.Raw.TheOpen.{Raw-F}
 use Rattle.basic_toml_read.specs.declared.section.Element.{Element}
 use Rattle.basic_toml_read.specs.declared.section.Row.{Row, out-Row}
 use Rattle.basic_toml_value.specs.Growth.{FindsOrAdds, values_of}
-use Rattle.basic_toml_grow.specs.Plain.{key_of, is_plain, are_simple}
-use Rattle.basic_toml_grow.specs.Simple.{are_all_plain}
-use Rattle.basic_toml_grow.proofs.PlainValues.{plain_value, value_lower}
-use Rattle.basic_toml_grow.proofs.SimpleKeys.{first_is_simple, simple_from_plain}
-use Rattle.basic_toml_grow.proofs.WhatIsLeft.{nothing_left}
+use Rattle.basic_toml_plain.specs.Plain.{key_of, is_plain, are_simple, are_all_plain}
+use Rattle.basic_toml_plain.specs.Tries.{leaf}
+use Rattle.basic_toml_plain.proofs.PlainValues.{plain_value, value_lower}
+use Rattle.basic_toml_plain.proofs.SimpleKeys.{first_is_simple, first_plain, others_plain, simple_from_plain}
+use Rattle.basic_toml_plain.proofs.WhatIsLeft.{nothing_left}
 use Rattle.basic_toml_grow.specs.declared.item.Item.{the_lemmas}
 use Rattle.basic_toml_grow.specs.declared.item.Item as items
-use Rattle.basic_toml_grow.specs.declared.item.Item.TheViews.{roll-Child}
 use Rattle.basic_toml_grow.specs.declared.item.Child.{Child}
 use Rattle.basic_toml_grow.specs.declared.item.Table.{Table, out-Table}
-use Rattle.basic_toml_grow.specs.Item.{item_trie, leaf, child_trie, table_trie}
+use Rattle.basic_toml_grow.specs.Item.{item_trie, child_trie, table_trie}
 use Rattle.basic_toml_grow.specs.Origins.{Within, item_origins, child_origins, table_within, value_origins, table_origin}
 use Rattle.basic_toml_grow.specs.Origins.{with_more, rows_origins, dotted_of}
 use Rattle.basic_toml_grow.specs.Rows.{AreIn, IsFinished, one_row}
 use Rattle.basic_toml_grow.specs.Simple.{kept, item_of, child_of, entry_of, entries_of, with_entries}
 use Rattle.basic_toml_grow.proofs.ItemTries.{entries_with, with_entries_twice}
 use Rattle.basic_toml_grow.proofs.RowValues.{value_put}
-use Rattle.basic_toml_grow.proofs.RowsHaveKeys.{one_has_keys, rows_are_keyed}
+use Rattle.basic_toml_read.proofs.RowsHaveKeys.{one_has_keys, rows_are_keyed}
 use Rattle.basic_toml_grow.proofs.RowsEntered.{row_key, step_added}
 use Rattle.basic_toml_grow.proofs.RowsLeft.{AreLeft, all_left, none_left, row_entered, both}
 use Rattle.basic_toml_grow.proofs.Origins.OriginsLeft.{OriginsLeft, row_comes, origins_entered, origins_done}
@@ -78,14 +73,6 @@ kept_comes (Raw-F.String text) l plain at s = search (rules, the_lemmas, raws.th
 kept_comes (Raw-F.Escaped text) l plain at s = search (rules, the_lemmas, raws.the_lemmas)
 kept_comes (Raw-F.Array es) l plain at s = search (rules, the_lemmas, raws.the_lemmas)
 kept_comes (Raw-F.Inline rs) l plain at s = search (rules, the_lemmas, raws.the_lemmas)
-
--- the first of plain rows, and the others
-pub first_plain : (l : ℕ) (r : Row) (rs : List Row) → are_all_plain l (r ∷ rs) ≡ true
-    → is_plain (out-Row r).value l ≡ true
-first_plain l r rs plain = (both (is_plain (out-Row r).value l) (are_all_plain l rs) plain).0
-
-pub others_plain : (l : ℕ) (r : Row) (rs : List Row) → are_all_plain l (r ∷ rs) ≡ true → are_all_plain l rs ≡ true
-others_plain l r rs plain = (both (is_plain (out-Row r).value l) (are_all_plain l rs) plain).1
 
 -- plain rows are so at the lowest level too
 pub all_lower : (l : ℕ) (rows : List Row) → are_all_plain l rows ≡ true → are_all_plain 0 rows ≡ true

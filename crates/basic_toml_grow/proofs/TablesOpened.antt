@@ -7,6 +7,8 @@ use Rattle.basic_toml_grammar.specs.Sections.{Rows}
 use Rattle.basic_toml_grammar.specs.Standing as standings
 use Rattle.basic_toml_grammar.specs.Trie.{Trie, trie, put_rows, put_table, put_element}
 use Rattle.basic_toml_read.specs.declared.section.Row.{Row}
+use Rattle.basic_toml_plain.specs.Tries.{by_keys, row_trie, rows_trie}
+use Rattle.basic_toml_plain.specs.PlainTables.{SectionTable, SectionTables}
 use Rattle.basic_toml_grow.specs.declared.clash.Clash.{Clash}
 use Rattle.basic_toml_grow.specs.declared.item.Item.{the_lemmas, Tables}
 use Rattle.basic_toml_grow.specs.declared.item.Item as items
@@ -14,8 +16,7 @@ use Rattle.basic_toml_grow.specs.declared.item.Item.TheOpen.{Item-F, Table-F}
 use Rattle.basic_toml_grow.specs.declared.item.Item.TheViews.{out-Item, roll-Table, out-roll-Table}
 use Rattle.basic_toml_grow.specs.declared.item.Child.{Child}
 use Rattle.basic_toml_grow.specs.declared.item.Table.{Table, out-Table}
-use Rattle.basic_toml_grow.specs.Item.{item_trie, table_trie, by_keys, by_numbers, row_trie, rows_trie}
-use Rattle.basic_toml_grow.specs.PlainTables.{SectionTable, SectionTables}
+use Rattle.basic_toml_grow.specs.Item.{item_trie, table_trie, by_numbers}
 use Rattle.basic_toml_grow.specs.Rows.{EntersRows}
 use Rattle.basic_toml_grow.specs.Headers.{EntersHeader}
 use Rattle.basic_toml_grow.proofs.ItemTries.{table_entries_trie}

@@ -4,10 +4,9 @@ use Rattle.basic_toml_value.specs.Data.{Data, items_of}
 use Rattle.basic_toml_grammar.specs.Steps.{key, number}
 use Rattle.basic_toml_grammar.specs.Mentions.{finished}
 use Rattle.basic_toml_grammar.specs.Standing as standing
-use Rattle.basic_toml_grammar.specs.Growth.{closed}
-use Rattle.basic_toml_grammar.specs.Trie.{Trie, trie, Tries, no_tries, by, nothing, bare}
-use Rattle.basic_toml_read.specs.declared.section.Row.{Row, out-Row}
-use Rattle.basic_toml_grow.specs.Plain.{plain_array, plain_table, plain_data, key_of}
+use Rattle.basic_toml_grammar.specs.Trie.{Trie, trie, Tries, no_tries, by, nothing}
+use Rattle.basic_toml_plain.specs.Plain.{plain_array, plain_table}
+use Rattle.basic_toml_plain.specs.Tries.{leaf, by_keys, tree_data, rows_trie}
 use Rattle.basic_toml_grow.specs.declared.item.Item.{fold-Item}
 use Rattle.basic_toml_grow.specs.declared.item.Item as items
 use Rattle.basic_toml_grow.specs.declared.item.Item.TheOpen.{Item-F, Child-F, Table-F}
@@ -16,28 +15,9 @@ use Rattle.basic_toml_grow.specs.declared.item.Child.{fold-Child}
 use Rattle.basic_toml_grow.specs.declared.item.Table as tables
 use Rattle.basic_toml_grow.specs.declared.item.Table.{fold-Table}
 
--- a finished value
-abbrev pub leaf : Data → Trie
-leaf d = trie (Some standing.value) (Some d) no_tries
-
-abbrev pub by_keys : List (List ℕ × Trie) → Tries
-by_keys [] = no_tries
-by_keys (p ∷ ps) = by (key p.0) p.1 (by_keys ps)
-
 abbrev pub by_numbers : ℕ → List Trie → Tries
 by_numbers n [] = no_tries
 by_numbers n (t ∷ ts) = by (number n) t (by_numbers (suc n) ts)
-
-abbrev pub tree_data : Trie → Data
-tree_data t = closed (bare t)
-
--- a row with a plain value
-abbrev pub row_trie : Row → List ℕ × Trie
-row_trie r = (key_of r, leaf (plain_data (out-Row r).value))
-
--- the table of a header, by its rows
-abbrev pub rows_trie : List Row → Trie
-rows_trie rows = trie (Some (standing.table false true false)) None (by_keys (map row_trie rows))
 
 -- one level, the parts seen already
 abbrev pub item_grows : Item-F Trie Trie Trie → Trie

@@ -1,9 +1,7 @@
 pub mod KeyTree
 pub mod Crossed
 pub mod Clash
-pub mod Plain
 pub mod Item
-pub mod PlainTables
 pub mod Simple
 pub mod Origins
 pub mod Rows

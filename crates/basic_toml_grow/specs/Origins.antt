@@ -9,8 +9,8 @@ use Rattle.basic_toml_grammar.specs.Sections.{KeyTexts, texts, Raw, Elements, no
 use Rattle.basic_toml_grammar.specs.Sections.{row}
 use Rattle.basic_toml_grammar.specs.Steps.{Step, key, number, Path, step_eq}
 use Rattle.basic_toml_read.specs.SectionView.{rows_seen}
-use Rattle.basic_toml_grow.specs.Plain.{plain_array, plain_table}
-use Rattle.basic_toml_grow.specs.PlainTables.{SectionTable}
+use Rattle.basic_toml_plain.specs.Plain.{plain_array, plain_table}
+use Rattle.basic_toml_plain.specs.PlainTables.{SectionTable}
 use Rattle.basic_toml_grow.specs.declared.item.Item.{fold-Item}
 use Rattle.basic_toml_grow.specs.declared.item.Item as items
 use Rattle.basic_toml_grow.specs.declared.item.Item.TheOpen.{Item-F, Child-F, Table-F}

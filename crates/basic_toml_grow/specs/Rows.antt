@@ -14,12 +14,13 @@ use Rattle.basic_toml_grammar.specs.Entering.{and_then}
 use Rattle.basic_toml_read.specs.declared.section.Key as keys
 use Rattle.basic_toml_read.specs.declared.section.Row.{Row}
 use Rattle.basic_toml_read.specs.SectionView.{key_of, lined_of}
+use Rattle.basic_toml_plain.specs.Tries.{leaf, tree_data}
 use Rattle.basic_toml_grow.specs.declared.clash.Clash.{Clash}
 use Rattle.basic_toml_grow.specs.declared.clash.Clash.TheVariants.{Memory, Deep}
 use Rattle.basic_toml_grow.specs.declared.item.Child.{Child}
 use Rattle.basic_toml_grow.specs.declared.met.Met.{Met}
 use Rattle.basic_toml_grow.specs.declared.met.Met.TheVariants as mets
-use Rattle.basic_toml_grow.specs.Item.{leaf, tree_data, child_trie}
+use Rattle.basic_toml_grow.specs.Item.{child_trie}
 
 -- the rows stand in the table, beside what stood there
 pub record AreIn (rows : Rows) (level : ℕ) (before after : Trie) : Type 0 where

@@ -1,21 +1,16 @@
 -- The entries that a table takes rows as, each of one key and a plain value.
-use Rattle.std.specs.Prelude.{ℕ, Bool, true, false, List, map}
-use Rattle.std.specs.List.{list_all}
+use Rattle.std.specs.Prelude.{ℕ, true, false, List, map}
 use Rattle.basic_toml_read.specs.declared.section.Raw.{Raw, out-Raw}
 use Rattle.basic_toml_read.specs.declared.section.Raw.TheOpen.{Raw-F}
 use Rattle.basic_toml_read.specs.declared.section.Element.{Element}
 use Rattle.basic_toml_read.specs.declared.section.Row.{Row, out-Row}
 use Rattle.basic_toml_read.specs.declared.section.Rows.{Rows, out-Rows}
-use Rattle.basic_toml_grow.specs.Plain.{key_of, is_plain}
-use Rattle.basic_toml_grow.specs.PlainTables.{SectionTable}
+use Rattle.basic_toml_plain.specs.Plain.{key_of}
+use Rattle.basic_toml_plain.specs.PlainTables.{SectionTable}
 use Rattle.basic_toml_grow.specs.declared.item.Item as items
 use Rattle.basic_toml_grow.specs.declared.item.Item.TheViews.{roll-Child, roll-Table}
 use Rattle.basic_toml_grow.specs.declared.item.Child.{Child}
 use Rattle.basic_toml_grow.specs.declared.item.Table.{Table, out-Table}
-
--- each has a plain value
-abbrev pub are_all_plain : ℕ → List Row → Bool
-are_all_plain l rows = list_all (λ r. is_plain (out-Row r).value l) rows
 
 -- a plain value as an item
 abbrev pub kept : Raw-F Raw Element Row Rows → items.Item

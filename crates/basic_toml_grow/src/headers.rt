@@ -17,10 +17,8 @@ ghost use Rattle.basic_toml_grow.specs.Obstacles.{keys_obstacle, table_obstacle,
 
 use crate::clash::Clash;
 use crate::item::{Child, Item, Table};
-use crate::plain::are_few_simple;
-use crate::plain_items::PlainTable;
-use crate::plain_tables::PlainTables;
 use crate::rows::take_rows;
+use basic_toml_plain::{PlainTable, PlainTables, are_few_simple};
 use basic_toml_read::{Key, Rows, Section};
 use basic_toml_value::NESTING_LIMIT;
 use std::alloc::Global;
@@ -174,13 +172,13 @@ fn enter_last<'de>(
     let kept = rows.rows.split_off(0)?;
     let place = table.entries.enter(key.text.as_str(), |_| {
         let rows = Vec::new(alloc);
-        Ok(Child::at(0, number, Item::Section(PlainTable { rows })))
+        Ok(Child::at(0, number, Item::Section(PlainTable::new(rows))))
     })?;
     table.passed = true;
     table.section = number;
     let there = table.entries.value_mut(place.position);
     if place.is_new {
-        *there = Child::at(0, number, Item::Section(PlainTable { rows: kept }));
+        *there = Child::at(0, number, Item::Section(PlainTable::new(kept)));
         return Ok(());
     }
     rows.rows = kept;
@@ -221,7 +219,7 @@ fn enter_element<'de>(
     }
     let place = table.entries.enter(key.text.as_str(), |_| {
         let rows = Vec::new(alloc);
-        Ok(Child::at(0, number, Item::Section(PlainTable { rows })))
+        Ok(Child::at(0, number, Item::Section(PlainTable::new(rows))))
     })?;
     table.passed = true;
     table.section = number;

@@ -7,8 +7,7 @@ ghost use Rattle.basic_toml_grow.specs.Headers.{IsNew};
 ghost use Rattle.basic_toml_grow.specs.Item.{item_trie, child_trie, table_trie, empty_table};
 ghost use Rattle.basic_toml_grow.specs.Origins.{item_origins, child_origins, entry, no_origins, table_origin};
 
-use crate::plain_items::{PlainArray, PlainTable};
-use crate::plain_tables::PlainTables;
+use basic_toml_plain::{PlainArray, PlainTable, PlainTables};
 use basic_toml_value::{Float, Pairs};
 use std::alloc::{AllocError, Global};
 

@@ -9,26 +9,27 @@ ghost use Rattle.basic_toml_grammar.specs.Marks.{valued};
 ghost use Rattle.basic_toml_grammar.specs.Steps.{key as key_step};
 ghost use Rattle.basic_toml_grammar.specs.Trie.{mark_here};
 ghost use Rattle.basic_toml_read.specs.SectionView.{raw_of, key_of, header_texts, rows_seen, rows_view, elements_view, NoneLeft};
+ghost use Rattle.basic_toml_plain.specs.Tries.{leaf};
+ghost use Rattle.basic_toml_plain.specs.Plain.{are_all_plain as all_plain};
 ghost use Rattle.basic_toml_grow.specs.declared.item.Table.{out-Table};
-ghost use Rattle.basic_toml_grow.specs.Item.{leaf, child_trie, table_trie};
+ghost use Rattle.basic_toml_grow.specs.Item.{child_trie, table_trie};
 ghost use Rattle.basic_toml_grow.specs.Origins.{child_origins, table_within, with_more, or_else, entry, beyond};
 ghost use Rattle.basic_toml_grow.specs.Origins.{row_origins, rows_origins, value_origins, elements_origins};
 ghost use Rattle.basic_toml_grow.specs.Origins.{dotted_of, table_origin};
 ghost use Rattle.basic_toml_grow.specs.Rows.{EntersRow, EntersRows, Extends, Finishes, FinishesAll, one_row};
 ghost use Rattle.basic_toml_grow.specs.Clash.{NamesObstacle};
-ghost use Rattle.basic_toml_grow.specs.Simple.{are_all_plain as all_plain};
 ghost use Rattle.basic_toml_grow.specs.Obstacles.{rows_obstacle, value_obstacle, elements_obstacle};
 ghost use Rattle.basic_toml_grow.specs.RowStops.{TellsRow, TellsExtended};
 
 use crate::clash::Clash;
 use crate::item::{Child, Item, Table};
-use crate::items_left::{ItemsLeft, drain};
 use crate::met::{Met, what_is_met};
-use crate::plain::{are_few_simple, are_plain};
-use crate::plain_items::{PlainArray, PlainTable};
 use crate::row_clash::{row_clash, value_clash};
-use crate::simple::{RowKeys, are_all_plain, with_first_rows, with_rows};
+use crate::simple::{RowKeys, with_first_rows, with_rows};
 use basic_toml_index::Index;
+use basic_toml_plain::{
+    ItemsLeft, PlainArray, PlainTable, are_all_plain, are_few_simple, are_plain, drain,
+};
 use basic_toml_read::{Element, Key, Raw, Row, Rows};
 use basic_toml_value::NESTING_LIMIT;
 use std::alloc::Global;
@@ -380,14 +381,14 @@ fn row_value<'de>(
     let value = match value {
         Raw::Array(elements) => {
             if looks > 0 && level < NESTING_LIMIT && are_plain(elements.as_slice(), level + 1) {
-                let array = PlainArray { elements };
+                let array = PlainArray::new(elements);
                 return Ok(Child::at(start, section, Item::Plain(array)));
             }
             Raw::Array(elements)
         }
         Raw::Inline(rows) => {
             if looks > 0 && level < NESTING_LIMIT && are_few_simple(rows.as_slice(), level + 1) {
-                let table = PlainTable { rows };
+                let table = PlainTable::new(rows);
                 return Ok(Child::at(start, section, Item::Rows(table)));
             }
             Raw::Inline(rows)

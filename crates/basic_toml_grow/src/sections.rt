@@ -2,15 +2,15 @@
 //! their table, or other rows come into their array.
 
 ghost use Rattle.std.specs.Prelude.{◌≡◌, false, true, IfOk, map};
+ghost use Rattle.basic_toml_plain.specs.PlainTables.{have_few_simple};
 ghost use Rattle.basic_toml_grow.specs.declared.item.Child.{out-Child};
 ghost use Rattle.basic_toml_grow.specs.Item.{child_trie, is_section};
 ghost use Rattle.basic_toml_grow.specs.Origins.{child_origins};
-ghost use Rattle.basic_toml_grow.specs.PlainTables.{have_few_simple};
 ghost use Rattle.basic_toml_grow.specs.Simple.{table_of};
 
 use crate::item::{Child, Item, Table};
-use crate::plain_tables::PlainTables;
 use crate::simple::{first_table, section_table};
+use basic_toml_plain::{PlainTable, PlainTables};
 use std::alloc::{AllocError, Global};
 use std::mem;
 
@@ -40,8 +40,8 @@ impl<'de> Child<'de> {
     {
         match &mut self.item {
             Item::Section(table) => {
-                let rows = mem::replace(&mut table.rows, Vec::new(alloc));
-                let table = section_table(alloc, rows, self.section)?;
+                let table = mem::replace(table, PlainTable::new(Vec::new(alloc)));
+                let table = section_table(alloc, table.into_rows(), self.section)?;
                 self.item = Item::Table(table);
                 Ok(())
             }

@@ -4,34 +4,18 @@ ghost use Rattle.std.specs.Prelude.{◌≡◌, ◌≤◌, [], true, IfOk, IsTrue
 ghost use Rattle.basic_toml_index.specs.Keys.{are_distinct, is_among};
 ghost use Rattle.basic_toml_value.specs.Entries.{seen};
 ghost use Rattle.basic_toml_index.specs.Index.{IsIndex, few};
-ghost use Rattle.basic_toml_grow.specs.Plain.{are_few_simple as few_simple, key_of, is_plain};
-ghost use Rattle.basic_toml_grow.specs.Simple.{are_all_plain as all_plain};
+ghost use Rattle.basic_toml_plain.specs.Plain.{are_few_simple as few_simple, key_of, is_plain};
+ghost use Rattle.basic_toml_plain.specs.Plain.{are_all_plain as all_plain};
 ghost use Rattle.basic_toml_grow.specs.Simple.{child_at, entries_of as new_entries, with_entries};
 ghost use Rattle.basic_toml_grow.specs.Simple.{section_table as table_of_section};
 
 use crate::item::{Child, Item, Table};
-use crate::items_left::{ItemsLeft, drain};
-use crate::plain::is_plain;
-use crate::plain_items::{PlainArray, PlainTable};
-use crate::section_rows::SectionRows;
 use basic_toml_index::{Index, Texts};
+use basic_toml_plain::{ItemsLeft, PlainArray, PlainTable, SectionRows, drain};
 use basic_toml_read::{Raw, Row};
 use basic_toml_value::{Pair, Pairs, Text};
 use std::alloc::{AllocError, Global};
 use std::mem;
-
-/// Whether the rows of a table of a level all have plain values. It serves many rows, of which no key is compared with
-/// all others.
-pub(crate) fn are_all_plain(rows: &[Row<'_>], level: usize) -> bool
-    ensures { result ≡ all_plain level rows.now }
-{
-    for row in rows {
-        if !is_plain(&row.value, level) {
-            return false;
-        }
-    }
-    true
-}
 
 // A plain value that begins at an offset of a section.
 #[inline(always)]
@@ -46,8 +30,8 @@ fn child_at<'de>(value: Raw<'de>, start: usize, section: usize) -> Child<'de>
         Raw::False => Item::False,
         Raw::String(text) => Item::String(text),
         Raw::Escaped(text) => Item::Escaped(text),
-        Raw::Array(elements) => Item::Plain(PlainArray { elements }),
-        Raw::Inline(rows) => Item::Rows(PlainTable { rows }),
+        Raw::Array(elements) => Item::Plain(PlainArray::new(elements)),
+        Raw::Inline(rows) => Item::Rows(PlainTable::new(rows)),
         Raw::Dotted(_) => unreachable!(),
     };
     Child {
@@ -164,7 +148,7 @@ pub(crate) struct RowKeys<'r, 'de> {
 
 impl<'r, 'de> Texts for RowKeys<'r, 'de> {
     ghost use Rattle.std.specs.Prelude.{map};
-    ghost use Rattle.basic_toml_grow.specs.Plain.{key_of};
+    ghost use Rattle.basic_toml_plain.specs.Plain.{key_of};
 
     ghost texts = { λ keys. map key_of keys.rows.now };
 

@@ -1,6 +1,6 @@
 -- What the steps that are pushed are as a path, and what is left of rows and elements to look in.
 use Rattle.std.proofs.Common.{◌≡◌, ℕ, suc, ◌+◌, ◌≤◌, ◌<◌, Bool, true, false, List, [], ◌∷◌, ◌++◌, Option, Some, None}
-use Rattle.std.proofs.Common.{refl, ap, sym, ◌∙◌, subst, append_assoc, arith, rules, cond, drop, get_or, length}
+use Rattle.std.proofs.Common.{refl, ap, sym, ◌∙◌, subst, append_assoc, arith, cond, drop, get_or, length}
 use Rattle.std.proofs.Common.{append-nil, map, take}
 use Rattle.std.specs.Prelude.{◌==◌, option_map}
 use Rattle.std.specs.Option.{option_or}
@@ -12,10 +12,10 @@ use Rattle.basic_toml_grammar.specs.Steps.{key, number, Path, steps_of}
 use Rattle.basic_toml_places.specs.Places.{Test, key_number, here_or, path_among, path_by, path_within}
 use Rattle.basic_toml_read.specs.declared.section.Element.{Element, out-Element}
 use Rattle.basic_toml_read.specs.declared.section.Key as code
-use Rattle.basic_toml_read.specs.declared.section.Raw.{the_lemmas}
 use Rattle.basic_toml_read.specs.declared.section.Row.{Row, out-Row}
 use Rattle.basic_toml_read.specs.SectionView.{Lined, Placed, key_of, raw_of, placed_of, lined_of}
 use Rattle.basic_toml_read.specs.SectionView.{elements_from, rows_from}
+use Rattle.basic_toml_read.proofs.ViewsSeen.{placed_is}
 use Rattle.basic_toml_read.proofs.NextRow.{lined_is, next_row}
 use Rattle.basic_toml_origin.specs.declared.query.Query.{Query}
 use Rattle.basic_toml_origin.specs.declared.query.Query.TheVariants as variants
@@ -195,10 +195,6 @@ not_by_row test all left own rows i r before after found within is owned query p
     (none.0, query ∙ by_first test left own rows i r within is owned ∙ none.1)
 
 -- the same of elements
-placed_is : (e : Element)
-    → placed_of e ≡ record { offset = (out-Element e).offset; value = raw_of (out-Element e).value }
-placed_is e = search (rules, the_lemmas)
-
 abbrev pub element_path : Test → Element → Option Path
 element_path test e = here_or test [] (out-Element e).offset (path_within test (raw_of (out-Element e).value))
 

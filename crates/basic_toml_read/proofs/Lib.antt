@@ -1,6 +1,7 @@
 pub mod WordIsRead
 pub mod ViewsSeen
 pub mod NextRow
+pub mod RowsHaveKeys
 pub mod LeftAfter
 pub mod EnoughSteps
 pub mod ScalarsRead

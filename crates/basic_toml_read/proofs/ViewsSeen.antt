@@ -6,7 +6,7 @@ use Rattle.std.proofs.Math.Seq.{drop-append_seam, take-append_seam}
 use Rattle.std.proofs.lemmas.List.{map-append, length-map}
 use Rattle.basic_toml_read.specs.declared.key_text.KeyText.{KeyText}
 use Rattle.basic_toml_read.specs.declared.section.Raw.{Raw, the_lemmas, Integer, String, Array}
-use Rattle.basic_toml_read.specs.declared.section.Element.{Element, roll-Element}
+use Rattle.basic_toml_read.specs.declared.section.Element.{Element, out-Element, roll-Element}
 use Rattle.basic_toml_read.specs.declared.section.Row.{Row, roll-Row}
 use Rattle.basic_toml_read.specs.declared.section.Key as code_keys
 use Rattle.basic_toml_grammar.specs.Sections as spec
@@ -37,6 +37,10 @@ pub element_seen : (offset end : ℕ) (value : Raw)
     → placed_of (roll-Element (record { offset = offset; end = end; value = value }))
     ≡ record { offset = offset; value = raw_of value }
 element_seen offset end value = search (rules, the_lemmas)
+
+pub placed_is : (e : Element)
+    → placed_of e ≡ record { offset = (out-Element e).offset; value = raw_of (out-Element e).value }
+placed_is e = search (rules, the_lemmas)
 
 -- lines after others
 pub lines_assoc : (a b c : Lines) → and_lines (and_lines a b) c ≡ and_lines a (and_lines b c)

@@ -15,13 +15,13 @@ use Rattle.basic_toml_read.specs.declared.section.Row.{Row}
 use Rattle.basic_toml_read.specs.declared.section.Rows.{Rows}
 use Rattle.basic_toml_read.specs.SectionView.{Lined, lined_of, rows_from}
 use Rattle.basic_toml_read.specs.declared.section.Raw as raws
-use Rattle.basic_toml_grow.specs.Plain.{is_plain, plain_data, rows_data}
+use Rattle.basic_toml_plain.specs.Plain.{is_plain, plain_data, rows_data}
+use Rattle.basic_toml_plain.proofs.RowsData.{inline_rows}
 use Rattle.basic_toml_grow.specs.declared.item.Item as items
 use Rattle.basic_toml_grow.specs.declared.item.Item.{Item}
 use Rattle.basic_toml_grow.specs.declared.item.Table.{Table}
 use Rattle.basic_toml_tree.specs.Data.{data_of}
 use Rattle.basic_toml_tree.specs.Nodes.{is_table, elements_in}
-use Rattle.basic_toml_tree.proofs.RowsData.{inline_rows}
 use Rattle.basic_toml_tree.proofs.ItemData.{rows_item, inline_data, table_is_table}
 
 -- each branch stands at a key

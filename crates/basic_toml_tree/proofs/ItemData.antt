@@ -5,25 +5,28 @@ use Rattle.std.proofs.Common.{Option, Some, None, true, false, cond, length, ◌
 use Rattle.std.specs.Str.{bytes_eq}
 use Rattle.std.proofs.lemmas.Bool.{false≢true}
 use Rattle.std.proofs.lemmas.List.{map-append}
-use Rattle.basic_toml_value.specs.Data.{Data, Members, item, items_of, no_members, member, members_of}
+use Rattle.basic_toml_value.specs.Data.{Data, Members, items_of, no_members, members_of}
 use Rattle.basic_toml_value.specs.Text.{text_bytes}
 use Rattle.basic_toml_value.specs.Entries.{seen, texts_of}
 use Rattle.basic_toml_value.specs.Pairs.{keys_of, value_at}
-use Rattle.basic_toml_value.specs.View.{view, entries}
+use Rattle.basic_toml_value.specs.View.{view}
 use Rattle.basic_toml_value.specs.declared.pairs.Pair.{Pair}
 use Rattle.basic_toml_value.specs.declared.value.Value as values
-use Rattle.basic_toml_grammar.specs.Mentions.{finished, finished_elements}
+use Rattle.basic_toml_grammar.specs.Mentions.{finished}
 use Rattle.basic_toml_read.specs.declared.section.Element.{Element}
 use Rattle.basic_toml_read.specs.declared.section.Row.{Row}
-use Rattle.basic_toml_read.specs.SectionView.{elements_view}
-use Rattle.basic_toml_grow.specs.Plain.{plain_array, element_data, rows_data}
-use Rattle.basic_toml_grow.specs.PlainTables.{SectionTables}
+use Rattle.basic_toml_plain.specs.Plain.{are_few_simple, plain_array, element_data, rows_data}
+use Rattle.basic_toml_plain.specs.PlainTables.{SectionTables}
+use Rattle.basic_toml_plain.specs.Values.{row_pair, sections_data, value_pair}
+use Rattle.basic_toml_plain.proofs.PlainSeen.{elements_finished}
+use Rattle.basic_toml_plain.proofs.DataParts.{members_same, value_keys}
+use Rattle.basic_toml_plain.proofs.RowsData.{few_data}
 use Rattle.basic_toml_grow.specs.declared.item.Item.{the_lemmas, Array, Inline, Plain, Rows, Sections, Tables}
 use Rattle.basic_toml_grow.specs.declared.item.Item as Item
 use Rattle.basic_toml_grow.specs.declared.item.Child.{Child, out-Child}
 use Rattle.basic_toml_grow.specs.declared.item.Table.{Table, out-Table}
 use Rattle.basic_toml_tree.specs.Nodes.{data_among, data_at}
-use Rattle.basic_toml_tree.specs.Data.{data_of, child_data, table_data, sections_data, child_pair, value_pair, HoldsAny}
+use Rattle.basic_toml_tree.specs.Data.{data_of, child_data, table_data, child_pair, HoldsAny}
 
 -- the data of a child is that of its item
 pub child_item : (c : Child) → child_data c ≡ data_of (out-Child c).item
@@ -54,9 +57,6 @@ no_member : (entries : List (List ℕ × Child)) → members_of (map (λ p. (p.0
 no_member [] e = refl
 no_member (p ∷ ps) e = cc
 
-pub members_same : (a b : Members) → Data.table a ≡ Data.table b → a ≡ b
-members_same a b e = cc
-
 entry_held : (t : Table) → (length (out-Table t).entries == 0) ≡ false → HoldsAny (table_data t)
 entry_held t some none =
     false≢true (sym some ∙ no_member (out-Table t).entries
@@ -67,13 +67,24 @@ pub refused_held : {A E : Type 0} (t : Table) (result : Result A E) → (length 
 refused_held t (Ok x) some = tt
 refused_held t (Err e) some = entry_held t some
 
+-- and so it has a row, where it has rows
+no_row : (rows : List Row) → members_of (map row_pair rows) ≡ no_members → (length rows == 0) ≡ true
+no_row [] e = refl
+no_row (r ∷ rs) e = cc
+
+rows_held : (rows : List Row) → are_few_simple 0 rows ≡ true → (length rows == 0) ≡ false → HoldsAny (rows_data rows)
+rows_held rows simple some none =
+    false≢true (sym some ∙ no_row rows
+    (members_same (members_of (map row_pair rows)) no_members (sym (few_data rows simple) ∙ none)))
+
+pub refused_rows : {A E : Type 0} (rows : List Row) (d : Data) (result : Result A E) → d ≡ rows_data rows
+    → are_few_simple 0 rows ≡ true → (length rows == 0) ≡ false → IfErr result (λ e. HoldsAny d)
+refused_rows rows d (Ok x) is simple some = tt
+refused_rows rows d (Err e) is simple some = λ none. rows_held rows simple some (sym is ∙ none)
+
 -- the data of an array of plain values
 pub plain_item : (es : List Element) → data_of (Plain es) ≡ finished (plain_array es)
 plain_item es = search (rules, the_lemmas)
-
-elements_finished : (es : List Element) → finished_elements (elements_view es) ≡ items_of (map element_data es)
-elements_finished [] = refl
-elements_finished (e ∷ es) = ap (λ items. item (element_data e) items) (elements_finished es)
 
 pub plain_elements : (es : List Element) → data_of (Plain es) ≡ Data.array (items_of (map element_data es))
 plain_elements es = plain_item es ∙ ap Data.array (elements_finished es)
@@ -102,19 +113,6 @@ tables_data tables = search (rules, the_lemmas)
 
 pub sections_item : (tables : Box SectionTables Global) → data_of (Sections tables) ≡ sections_data tables.value
 sections_item tables = search (rules, the_lemmas)
-
--- what a value of a table is seen as
-pub table_seen : (pairs : List (List ℕ × values.Value)) → view (values.Table pairs) ≡ Data.table (entries pairs)
-table_seen pairs = search (rules, values.the_lemmas)
-
-pub entries_seen : (copies : List (Pair values.Value)) → entries (seen copies) ≡ members_of (map value_pair copies)
-entries_seen [] = refl
-entries_seen (p ∷ ps) = ap (λ ms. member (text_bytes p.key) (view p.value) ms) (entries_seen ps)
-
--- the keys of values
-pub value_keys : (copies : List (Pair values.Value)) → texts_of copies ≡ map (λ p. p.0) (map value_pair copies)
-value_keys [] = refl
-value_keys (p ∷ ps) = ap (λ l. text_bytes p.key ∷ l) (value_keys ps)
 
 -- copies of the same pairs have the same keys
 pub keys_copied : (copies : List (Pair values.Value)) (pairs : List (Pair Child)) (old : List (List ℕ × Child))

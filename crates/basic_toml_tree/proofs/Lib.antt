@@ -1,7 +1,4 @@
-pub mod DataParts
 pub mod ItemData
-pub mod RowsData
-pub mod PlainLeft
 pub mod InlineTables
 pub mod OrderIsFree
 pub mod SectionsEntered

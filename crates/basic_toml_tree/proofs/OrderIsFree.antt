@@ -23,7 +23,7 @@ use Rattle.basic_toml_tree.specs.declared.tree.Tree.{Tree}
 use Rattle.basic_toml_tree.specs.Order.{IsReordering, IsRefusedToo, IsAnswerToo, ResolvesInAnyOrder}
 use Rattle.basic_toml_tree.specs.Resolve.{Resolves, IsResolved, IsUnresolved, memory, refused}
 use Rattle.basic_toml_tree.proofs.SectionsStopped.{fault_is_named}
-use Rattle.basic_toml_grow.proofs.RowsHaveKeys.{sections_have_keys}
+use Rattle.basic_toml_read.proofs.RowsHaveKeys.{sections_have_keys}
 
 -- where sections clash, and where their tree is too deep, they have no document
 clash_has_none : (sections : List Section) → has_clash sections ≡ true → document_of sections ≡ None

@@ -4,13 +4,14 @@ use Rattle.std.specs.Prelude.{IfOk}
 use Rattle.basic_toml_value.specs.View.{view}
 use Rattle.basic_toml_value.specs.declared.value.Value.{Value}
 use Rattle.basic_toml_read.specs.declared.section.Row.{Row}
-use Rattle.basic_toml_grow.specs.Item.{tree_data}
-use Rattle.basic_toml_grow.specs.Plain.{are_few_simple, rows_data}
+use Rattle.basic_toml_plain.specs.Tries.{tree_data}
+use Rattle.basic_toml_plain.specs.Plain.{are_few_simple, rows_data}
+use Rattle.basic_toml_plain.specs.Values.{section_data}
+use Rattle.basic_toml_plain.proofs.RowsData.{few_data}
 use Rattle.basic_toml_grow.specs.Simple.{section_table}
 use Rattle.basic_toml_grow.specs.declared.item.Item.{Item, Section, the_lemmas}
 use Rattle.basic_toml_grow.proofs.SectionTables.{section_trie}
-use Rattle.basic_toml_tree.specs.Data.{data_of, section_data, table_data}
-use Rattle.basic_toml_tree.proofs.RowsData.{few_data}
+use Rattle.basic_toml_tree.specs.Data.{data_of, table_data}
 use Rattle.basic_toml_tree.proofs.TrieData.{item_trie_data, table_trie_data}
 
 -- of the item

@@ -24,7 +24,7 @@ use Rattle.basic_toml_grow.specs.declared.item.Table.{Table}
 use Rattle.basic_toml_grow.specs.Origins.{table_within, rows_origins}
 use Rattle.basic_toml_grow.specs.Ways.{way, GrowsAlong, MarksTable}
 use Rattle.basic_toml_grow.proofs.HeadersInATrie.{fresh}
-use Rattle.basic_toml_grow.proofs.RowsHaveKeys.{sections_have_keys}
+use Rattle.basic_toml_read.proofs.RowsHaveKeys.{sections_have_keys}
 use Rattle.basic_toml_tree.specs.declared.tree.Tree.{Tree}
 use Rattle.basic_toml_tree.specs.FirstStop.{value}
 use Rattle.basic_toml_tree.specs.Resolve.{Resolves, IsResolved, IsUnresolved, memory, refused, head}

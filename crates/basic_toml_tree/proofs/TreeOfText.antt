@@ -1,6 +1,6 @@
 -- The sections of a text go into a tree as they are read: what is known on the way, and how it ends.
 use Rattle.std.proofs.Common.{◌≡◌, inl, inr, ℕ, List, [], ◌∷◌, ◌++◌, refl, ap, sym, ◌∙◌, subst, append_assoc}
-use Rattle.std.proofs.Common.{append-nil, Option, MatchOption, Some, None, Result, Ok, Err, Bool, true, false}
+use Rattle.std.proofs.Common.{Option, MatchOption, Some, None, Result, Ok, Err, Bool, true, false}
 use Rattle.std.specs.Option.{option_or}
 use Rattle.std.specs.Prelude.{IsUtf8}
 use Rattle.std.specs.Result.{IsErrAnd}

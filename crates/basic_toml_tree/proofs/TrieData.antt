@@ -4,11 +4,15 @@ use Rattle.std.proofs.Common.{◌∙◌, subst, rules}
 use Rattle.std.proofs.Common.{length}
 use Rattle.std.specs.Prelude.{⊤}
 use Rattle.std.proofs.lemmas.List.{map-append}
-use Rattle.basic_toml_value.specs.Data.{Data, item, items_of, member, members_of}
+use Rattle.basic_toml_value.specs.Data.{Data, item, items_of, members_of}
 use Rattle.basic_toml_grammar.specs.Standing.{Standing, table, array}
 use Rattle.basic_toml_grammar.specs.Growth as growth
 use Rattle.basic_toml_grammar.specs.Trie.{Trie, trie, bare_tries}
 use Rattle.basic_toml_read.specs.declared.section.Row.{Row}
+use Rattle.basic_toml_plain.specs.Tries.{tree_data, leaf, by_keys, row_trie, rows_trie}
+use Rattle.basic_toml_plain.specs.PlainTables.{SectionTable}
+use Rattle.basic_toml_plain.specs.Values.{section_data, sections_data}
+use Rattle.basic_toml_plain.proofs.RowsData.{keys_data, rows_agree}
 use Rattle.basic_toml_grow.specs.declared.item.Item.{Item, the_lemmas}
 use Rattle.basic_toml_grow.specs.declared.item.Item.TheOpen.{Item-F, Child-F, Table-F}
 use Rattle.basic_toml_grow.specs.declared.item.Item.TheViews.{roll-Item, roll-Child, roll-Table}
@@ -16,22 +20,10 @@ use Rattle.basic_toml_grow.specs.declared.item.Item.TheFolds.{ind-Item, ind-Chil
 use Rattle.basic_toml_grow.specs.declared.item.Item.TheFolds.{map-Table}
 use Rattle.basic_toml_grow.specs.declared.item.Child.{Child}
 use Rattle.basic_toml_grow.specs.declared.item.Table.{Table}
-use Rattle.basic_toml_grow.specs.Item.{item_trie, child_trie, table_trie, tree_data, leaf, by_keys, by_numbers}
-use Rattle.basic_toml_grow.specs.Item.{row_trie, rows_trie}
-use Rattle.basic_toml_grow.specs.PlainTables.{SectionTable}
-use Rattle.basic_toml_tree.specs.Data.{data_of, child_data, table_data, row_pair, section_data, sections_data}
+use Rattle.basic_toml_grow.specs.Item.{item_trie, child_trie, table_trie, by_numbers}
+use Rattle.basic_toml_tree.specs.Data.{data_of, child_data, table_data}
 
--- the data at keys and at numbers
-members_keys : (ps : List (List ℕ × Trie))
-    → growth.members_of (bare_tries (by_keys ps)) ≡ members_of (map (λ p. (p.0, tree_data p.1)) ps)
-members_keys [] = refl
-members_keys (p ∷ ps) = ap (λ ms. member p.0 (tree_data p.1) ms) (members_keys ps)
-
-pub keys_data : (s : Option Standing) (ps : List (List ℕ × Trie))
-    → tree_data (trie s None (by_keys ps)) ≡ Data.table (members_of (map (λ p. (p.0, tree_data p.1)) ps))
-keys_data s [] = refl
-keys_data s (p ∷ ps) = ap Data.table (members_keys (p ∷ ps))
-
+-- the data at numbers
 items_numbers : (n : ℕ) (ts : List Trie)
     → growth.items_of (bare_tries (by_numbers n ts)) ≡ items_of (map tree_data ts)
 items_numbers n [] = refl
@@ -80,11 +72,6 @@ entries_agree : (ps : List (List ℕ × ((c : Child) × OfChild c)))
     → tries_of_entries (map (λ p. (p.0, p.1.0)) ps) ≡ data_of_entries (map (λ p. (p.0, p.1.0)) ps)
 entries_agree [] = refl
 entries_agree (p ∷ ps) = rw (p.1.1, entries_agree ps) refl
-
-pub rows_agree : (rs : List Row)
-    → map (λ (p : List ℕ × Trie). (p.0, tree_data p.1)) (map row_trie rs) ≡ map row_pair rs
-rows_agree [] = refl
-rows_agree (r ∷ rs) = ap (λ ps. row_pair r ∷ ps) (rows_agree rs)
 
 section_agrees : (rows : List Row) → tree_data (rows_trie rows) ≡ section_data rows
 section_agrees rows =

@@ -1,14 +1,11 @@
 -- The data that an item stands for.
-use Rattle.std.specs.Prelude.{◌≡◌, ℕ, true, false, List, [], ◌∷◌, ◌++◌, map, string_bytes}
+use Rattle.std.specs.Prelude.{◌≡◌, ℕ, true, false, List, [], ◌∷◌, ◌++◌, string_bytes}
 use Rattle.basic_toml_value.specs.Data.{Data, no_members, items_of, members_of}
 use Rattle.basic_toml_value.specs.Text.{text_bytes}
-use Rattle.basic_toml_value.specs.View.{view}
 use Rattle.basic_toml_value.specs.declared.pairs.Pair.{Pair}
-use Rattle.basic_toml_value.specs.declared.value.Value.{Value}
 use Rattle.basic_toml_grammar.specs.Mentions.{finished}
-use Rattle.basic_toml_read.specs.declared.section.Row.{Row, out-Row}
-use Rattle.basic_toml_grow.specs.Plain.{plain_array, plain_data, rows_data, key_of}
-use Rattle.basic_toml_grow.specs.PlainTables.{SectionTables}
+use Rattle.basic_toml_plain.specs.Plain.{plain_array, rows_data}
+use Rattle.basic_toml_plain.specs.Values.{section_data, sections_data}
 use Rattle.basic_toml_grow.specs.declared.item.Item.{fold-Item}
 use Rattle.basic_toml_grow.specs.declared.item.Item as items
 use Rattle.basic_toml_grow.specs.declared.item.Item.TheOpen.{Item-F, Child-F, Table-F}
@@ -16,17 +13,6 @@ use Rattle.basic_toml_grow.specs.declared.item.Child as children
 use Rattle.basic_toml_grow.specs.declared.item.Child.{fold-Child}
 use Rattle.basic_toml_grow.specs.declared.item.Table as tables
 use Rattle.basic_toml_grow.specs.declared.item.Table.{fold-Table}
-
--- the key of a row with the data of its plain value
-abbrev pub row_pair : Row → List ℕ × Data
-row_pair r = (key_of r, plain_data (out-Row r).value)
-
--- the table of a header, by its rows
-abbrev pub section_data : List Row → Data
-section_data rows = Data.table (members_of (map row_pair rows))
-
-abbrev pub sections_data : SectionTables → Data
-sections_data ts = Data.array (items_of (map (λ t. section_data t.1) ts.0 ++ section_data ts.1.1 ∷ []))
 
 -- one level, the parts seen already
 abbrev pub item_step : Item-F Data Data Data → Data
@@ -68,6 +54,3 @@ HoldsAny d = d ≡ Data.table no_members → ⊥
 -- a key with the data at it
 abbrev pub child_pair : Pair children.Child → List ℕ × Data
 child_pair pair = (text_bytes pair.key, child_data pair.value)
-
-abbrev pub value_pair : Pair Value → List ℕ × Data
-value_pair pair = (text_bytes pair.key, view pair.value)

@@ -3,7 +3,7 @@ use Rattle.std.specs.Prelude.{ℕ, Bool, true, false, List, [], ◌∷◌, Optio
 use Rattle.std.specs.Borrow.{Bor}
 use Rattle.std.specs.Str.{bytes_eq}
 use Rattle.basic_toml_value.specs.Data.{Data, Items, no_items, item, Members, no_members, member}
-use Rattle.basic_toml_grow.specs.Plain.{plain_data, rows_data}
+use Rattle.basic_toml_plain.specs.Plain.{plain_data, rows_data}
 use Rattle.basic_toml_tree.specs.Data.{data_of, table_data}
 use Rattle.basic_toml_tree.specs.HeaderTables.{table_of}
 use Rattle.basic_toml_tree.specs.declared.node.Node.{Node}

@@ -15,7 +15,8 @@ use Rattle.basic_toml_read.specs.declared.section.Element.{Element}
 use Rattle.basic_toml_read.specs.declared.section.Row.{Row, out-Row}
 use Rattle.basic_toml_read.specs.declared.section.Rows.{Rows}
 use Rattle.basic_toml_read.specs.SectionView.{raw_of, placed_of}
-use Rattle.basic_toml_grow.specs.Plain.{plain_data, are_few_simple, key_of}
+use Rattle.basic_toml_plain.specs.Plain.{plain_data, are_few_simple, key_of}
+use Rattle.basic_toml_plain.specs.Tries.{leaf}
 use Rattle.basic_toml_grow.specs.declared.item.Item.{Item, out-Item}
 use Rattle.basic_toml_grow.specs.declared.item.Item.TheOpen.{Item-F}
 use Rattle.basic_toml_grow.specs.declared.item.Child.{Child}
@@ -30,7 +31,7 @@ use Rattle.basic_toml_tree.specs.declared.spot.HeaderTable.TheVariants as header
 use Rattle.basic_toml_tree.specs.declared.spot.Fields.{Fields}
 use Rattle.basic_toml_tree.specs.declared.spot.Fields.TheVariants as fields
 use Rattle.basic_toml_tree.specs.declared.plain_value.PlainValue.{PlainValue}
-use Rattle.basic_toml_grow.specs.Item.{child_trie, item_trie, leaf, table_trie}
+use Rattle.basic_toml_grow.specs.Item.{child_trie, item_trie, table_trie}
 use Rattle.basic_toml_tree.specs.Origin.{spot_is_made, spot_name, spot_section, spot_is_borrowed, is_borrowed}
 use Rattle.basic_toml_grow.specs.Origins.{Origin, Origins, child_origins, item_origins, table_within, value_origins}
 use Rattle.basic_toml_grow.specs.Simple.{child_of, section_table}

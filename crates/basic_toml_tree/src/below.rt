@@ -2,9 +2,9 @@
 
 ghost use Rattle.std.specs.Prelude.{◌≡◌, ◌==◌, true, false};
 ghost use Rattle.basic_toml_read.specs.declared.section.Row.{out-Row};
+ghost use Rattle.basic_toml_plain.specs.Plain.{is_plain};
 ghost use Rattle.basic_toml_grow.specs.Item.{child_trie};
 ghost use Rattle.basic_toml_grow.specs.Origins.{child_origins};
-ghost use Rattle.basic_toml_grow.specs.Plain.{is_plain};
 ghost use Rattle.basic_toml_grow.specs.declared.item.Child.{out-Child};
 ghost use Rattle.basic_toml_tree.specs.Data.{child_data};
 ghost use Rattle.basic_toml_tree.specs.Keys.{GoesOn, CountsOn, BeginsRow, HandsOn};

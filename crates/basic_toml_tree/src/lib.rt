@@ -12,7 +12,6 @@ mod entries;
 mod headers;
 pub mod laws;
 mod node;
-mod plain;
 mod plain_value;
 mod section_table;
 mod spot;

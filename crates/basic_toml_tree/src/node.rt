@@ -12,7 +12,7 @@ ghost use Rattle.basic_toml_grammar.specs.Steps.{Path};
 ghost use Rattle.basic_toml_grammar.specs.IndexedPath.{located};
 ghost use Rattle.basic_toml_grammar.specs.Nodes.{is_made as made_by_headers};
 ghost use Rattle.basic_toml_explain.specs.Error.{want_of_memory};
-ghost use Rattle.basic_toml_grow.specs.Plain.{are_plain, key_of as row_key};
+ghost use Rattle.basic_toml_plain.specs.Plain.{are_plain, key_of as row_key};
 ghost use Rattle.basic_toml_tree.specs.Data.{table_data, child_data, HoldsAny};
 ghost use Rattle.basic_toml_tree.specs.Nodes.{node_data, is_table, is_array, fields_data, data_at};
 ghost use Rattle.basic_toml_tree.specs.Nodes.{elements_in, entries_in, elements_left, entries_left};
@@ -25,7 +25,6 @@ ghost use Rattle.basic_toml_tree.specs.Stands.{ComesFrom, IsPlainElement, IsRowA
 ghost use Rattle.basic_toml_grow.specs.Origins.{child_origins};
 
 use crate::entries::{Elements, Entries};
-use crate::plain::{plain_table, plain_value};
 use crate::plain_value::PlainValue;
 use crate::section_table::SectionTable;
 use crate::spot::{Fields, HeaderTable, Kind, Spot};
@@ -33,6 +32,7 @@ use crate::trail::Trail;
 use crate::tree::Tree;
 use crate::values::{table_of, value_of};
 use basic_toml_grow::{Child, Item, Table, key_texts};
+use basic_toml_plain::{plain_table, plain_value};
 use basic_toml_read::{Element, Raw, ReadError, Row};
 use basic_toml_value as values;
 use basic_toml_value::{Float, Value};

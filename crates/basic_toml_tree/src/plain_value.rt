@@ -1,7 +1,7 @@
 //! A value within an array or an inline table of plain values.
 
 ghost use Rattle.std.specs.Prelude.{◌≡◌, true};
-ghost use Rattle.basic_toml_grow.specs.Plain.{is_plain};
+ghost use Rattle.basic_toml_plain.specs.Plain.{is_plain};
 
 use basic_toml_read::Raw;
 

@@ -1,7 +1,7 @@
 //! The table of a header whose section stands as it was read.
 
 ghost use Rattle.std.specs.Prelude.{◌≡◌, true};
-ghost use Rattle.basic_toml_grow.specs.Plain.{are_few_simple};
+ghost use Rattle.basic_toml_plain.specs.Plain.{are_few_simple};
 
 use basic_toml_read::Row;
 

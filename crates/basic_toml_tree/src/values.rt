@@ -2,13 +2,15 @@
 ghost use Rattle.std.specs.Prelude.{◌≡◌, IfErr, IfOk, map};
 ghost use Rattle.basic_toml_value.specs.Data.{table as table_of_members};
 ghost use Rattle.basic_toml_value.specs.View.{view, entries};
+ghost use Rattle.basic_toml_plain.specs.Values.{value_pair};
 ghost use Rattle.basic_toml_grow.specs.declared.item.Item.{Array, Plain, Sections, Tables};
-ghost use Rattle.basic_toml_tree.specs.Data.{data_of, child_data, table_data, child_pair, value_pair, HoldsAny};
+ghost use Rattle.basic_toml_tree.specs.Data.{data_of, child_data, table_data, child_pair, HoldsAny};
 
-use crate::plain::{
-    into_plain_table, into_plain_tables, into_plain_values, plain_table, plain_tables, plain_values,
+use basic_toml_grow::{Child, Item, Table};
+use basic_toml_plain::{
+    PlainArray, PlainTables, drain, into_plain_table, into_plain_tables, into_plain_values,
+    plain_table, plain_tables, plain_values,
 };
-use basic_toml_grow::{Child, Item, PlainArray, PlainTables, Table, drain};
 use basic_toml_value as values;
 use basic_toml_value::{Pair, Pairs, Text, Value};
 use std::alloc::{AllocError, Global};

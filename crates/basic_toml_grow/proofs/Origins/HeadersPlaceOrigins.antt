@@ -9,12 +9,13 @@ use Rattle.basic_toml_index.proofs.DistinctKeys.{bytes_eq-same}
 use Rattle.basic_toml_grammar.specs.Sections.{KeyTexts, no_rows}
 use Rattle.basic_toml_grammar.specs.Steps.{Step, key, number, Path, begins}
 use Rattle.basic_toml_grammar.specs.Trie.{Trie, nothing, find, Tries}
+use Rattle.basic_toml_plain.specs.Tries.{by_keys}
 use Rattle.basic_toml_grow.specs.declared.item.Item.{Tables}
 use Rattle.basic_toml_grow.specs.declared.item.Item as items
 use Rattle.basic_toml_grow.specs.declared.item.Item.TheViews.{roll-Table, out-roll-Table}
 use Rattle.basic_toml_grow.specs.declared.item.Child.{Child, out-Child}
 use Rattle.basic_toml_grow.specs.declared.item.Table.{Table, out-Table}
-use Rattle.basic_toml_grow.specs.Item.{item_trie, child_trie, table_trie, by_keys, trie_before}
+use Rattle.basic_toml_grow.specs.Item.{item_trie, child_trie, table_trie, trie_before}
 use Rattle.basic_toml_value.specs.declared.pairs.growth.Place.{Place}
 use Rattle.basic_toml_grow.specs.Origins.{Origins, at_keys}
 use Rattle.basic_toml_grow.specs.Origins.{child_origins, item_origins, table_within}

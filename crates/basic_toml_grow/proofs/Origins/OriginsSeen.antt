@@ -11,17 +11,18 @@ use Rattle.basic_toml_value.specs.Pairs.{has_key, value_at}
 use Rattle.basic_toml_grammar.specs.Standing as standings
 use Rattle.basic_toml_grammar.specs.Steps.{key, number, Path}
 use Rattle.basic_toml_grammar.specs.Trie.{Trie, trie, Tries, no_tries, standing}
+use Rattle.basic_toml_plain.specs.Tries.{by_keys}
+use Rattle.basic_toml_plain.specs.PlainTables.{SectionTables}
 use Rattle.basic_toml_grow.specs.declared.item.Item.{the_lemmas, Array, Inline, Tables}
 use Rattle.basic_toml_grow.specs.declared.item.Item as items
 use Rattle.basic_toml_grow.specs.declared.item.Child.{Child, out-Child}
 use Rattle.basic_toml_grow.specs.declared.item.Table.{Table, out-Table}
-use Rattle.basic_toml_grow.specs.Item.{child_trie, table_trie, by_keys}
+use Rattle.basic_toml_grow.specs.Item.{child_trie, table_trie}
 use Rattle.basic_toml_value.specs.Growth.{with_value, values_of, FindsOrAdds}
 use Rattle.basic_toml_value.specs.declared.pairs.growth.Place.{Place}
 use Rattle.basic_toml_grow.specs.Origins.{Origin, Origins, no_origins, entry, under, at_keys, at_numbers}
 use Rattle.basic_toml_read.specs.declared.section.Row.{Row}
 use Rattle.basic_toml_read.specs.SectionView.{rows_seen}
-use Rattle.basic_toml_grow.specs.PlainTables.{SectionTables}
 use Rattle.basic_toml_grow.specs.Origins.{elements_within, section_origins, array_origin, value_origin, of_table, rows_origins, table_origin}
 use Rattle.basic_toml_grow.specs.Origins.{Within, item_origins, child_origins, table_within, or_else, origins_before, beyond}
 use Rattle.basic_toml_grow.proofs.ItemTries.{table_entries_trie}

@@ -8,13 +8,13 @@ use Rattle.std.proofs.Math.Path.{fun_ext}
 use Rattle.std.proofs.lemmas.Bool.{false≢true}
 use Rattle.basic_toml_value.specs.Pairs.{value_at}
 use Rattle.basic_toml_grammar.specs.Steps.{Step, key, number, Path}
+use Rattle.basic_toml_plain.specs.Plain.{are_few_simple}
 use Rattle.basic_toml_grow.specs.declared.item.Item.{Item, out-Item, the_lemmas, Array}
 use Rattle.basic_toml_grow.specs.declared.item.Item as items
 use Rattle.basic_toml_grow.specs.declared.item.Item.TheOpen.{Item-F}
 use Rattle.basic_toml_grow.specs.declared.item.Item.TheViews.{roll-Item}
 use Rattle.basic_toml_read.specs.declared.section.Row.{Row}
 use Rattle.basic_toml_read.specs.SectionView.{elements_view, rows_seen}
-use Rattle.basic_toml_grow.specs.Plain.{are_few_simple}
 use Rattle.basic_toml_grow.specs.Simple.{section_table}
 use Rattle.basic_toml_grow.specs.Origins.{elements_origins, rows_origins, section_origins as rows_from}
 use Rattle.basic_toml_grow.specs.declared.item.Child.{Child, out-Child}

@@ -8,11 +8,12 @@ use Rattle.std.specs.declared.iter.Iterator.{can_next-default}
 use Rattle.basic_toml_value.specs.Data.{Data, no_members, items_of, members_of}
 use Rattle.basic_toml_index.specs.Keys.{are_distinct}
 use Rattle.basic_toml_value.specs.Pairs.{keys_of}
-use Rattle.basic_toml_grow.specs.PlainTables.{SectionTables, tables_in}
+use Rattle.basic_toml_plain.specs.PlainTables.{SectionTables, tables_in}
+use Rattle.basic_toml_plain.specs.Values.{section_data}
 use Rattle.basic_toml_grow.specs.declared.item.Item.{the_lemmas, Array, Sections, Tables}
 use Rattle.basic_toml_grow.specs.declared.item.Child.{Child}
 use Rattle.basic_toml_grow.specs.declared.item.Table.{Table, out-Table}
-use Rattle.basic_toml_tree.specs.Data.{data_of, child_data, section_data, table_data}
+use Rattle.basic_toml_tree.specs.Data.{data_of, child_data, table_data}
 use Rattle.basic_toml_tree.specs.Nodes.{listed, paired, elements_in, entries_in}
 use Rattle.basic_toml_tree.proofs.ItemData.{sections_item, tables_data}
 

@@ -18,7 +18,8 @@ use Rattle.basic_toml_read.specs.declared.section.Raw as raws
 use Rattle.basic_toml_read.specs.declared.section.Element.{Element}
 use Rattle.basic_toml_read.specs.SectionView.{raw_of}
 use Rattle.basic_toml_read.proofs.ViewsSeen.{array_of}
-use Rattle.basic_toml_grow.specs.Plain.{plain_array}
+use Rattle.basic_toml_plain.specs.Plain.{plain_array}
+use Rattle.basic_toml_plain.specs.Tries.{by_keys, leaf, tree_data}
 use Rattle.basic_toml_grow.specs.declared.item.Item.{Item, out-Item, the_lemmas, Array, Plain}
 use Rattle.basic_toml_grow.specs.declared.item.Item.TheOpen.{Item-F}
 use Rattle.basic_toml_grow.specs.declared.item.Item.TheViews.{roll-Item}
@@ -30,7 +31,7 @@ use Rattle.basic_toml_tree.specs.declared.plain_value.PlainValue.{PlainValue}
 use Rattle.basic_toml_tree.specs.declared.spot.Spot.{Spot}
 use Rattle.basic_toml_tree.specs.declared.spot.Spot.TheVariants as spots
 use Rattle.basic_toml_value.specs.Growth.{values_of}
-use Rattle.basic_toml_grow.specs.Item.{item_trie, child_trie, table_trie, by_keys, leaf, tree_data}
+use Rattle.basic_toml_grow.specs.Item.{item_trie, child_trie, table_trie}
 use Rattle.basic_toml_tree.specs.Stands.{trie_at, tree_trie, spot_trie, wraps_table, HoldsTable, IsBelow, is_root}
 use Rattle.basic_toml_tree.specs.Keys.{CountsKeys, KeysLead, RowsLead}
 use Rattle.basic_toml_tree.proofs.Nodes.KeysLead.{count_beside, keys_beside, rows_beside}

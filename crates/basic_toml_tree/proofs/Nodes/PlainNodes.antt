@@ -13,7 +13,7 @@ use Rattle.basic_toml_read.specs.declared.section.Row.{Row}
 use Rattle.basic_toml_read.specs.declared.section.Rows as code_rows
 use Rattle.basic_toml_read.specs.declared.section.Element.{Element, out-Element}
 use Rattle.basic_toml_read.specs.SectionView.{Placed, raw_of, placed_of, elements_from}
-use Rattle.basic_toml_grow.specs.Plain.{plain_array}
+use Rattle.basic_toml_plain.specs.Plain.{plain_array}
 use Rattle.basic_toml_tree.specs.declared.node.Node.{Node}
 use Rattle.basic_toml_tree.specs.declared.plain_value.PlainValue.{PlainValue}
 use Rattle.basic_toml_tree.specs.declared.spot.Spot.{Spot}

@@ -28,9 +28,14 @@ use Rattle.basic_toml_read.specs.declared.section.Element.{Element}
 use Rattle.basic_toml_read.specs.declared.section.Row.{Row, out-Row}
 use Rattle.basic_toml_read.specs.declared.section.Rows as code_rows
 use Rattle.basic_toml_read.proofs.NextRow.{lone_row, lined_is}
-use Rattle.basic_toml_grow.specs.Plain.{key_of, is_plain, are_simple, are_few_simple, plain_data, plain_table}
-use Rattle.basic_toml_grow.specs.Plain.{rows_data}
-use Rattle.basic_toml_grow.specs.Item.{item_trie, leaf}
+use Rattle.basic_toml_plain.specs.Plain.{key_of, is_plain, are_simple, are_few_simple, plain_data, plain_table}
+use Rattle.basic_toml_plain.specs.Plain.{rows_data}
+use Rattle.basic_toml_plain.specs.Tries.{leaf}
+use Rattle.basic_toml_plain.specs.Values.{row_pair}
+use Rattle.basic_toml_plain.proofs.SimpleKeys.{keys_differ}
+use Rattle.basic_toml_plain.proofs.RowsData.{few_data, row_keys}
+use Rattle.basic_toml_plain.proofs.PlainLeft.{row_at}
+use Rattle.basic_toml_grow.specs.Item.{item_trie}
 use Rattle.basic_toml_grow.specs.Origins.{value_origins, rows_origins, item_origins, table_within, entry}
 use Rattle.basic_toml_grow.specs.Origins.{table_origin}
 use Rattle.basic_toml_grow.specs.declared.item.Item.{Item, out-Item, the_lemmas}
@@ -39,8 +44,7 @@ use Rattle.basic_toml_grow.specs.declared.item.Item.TheViews.{roll-Item}
 use Rattle.basic_toml_grow.specs.declared.item.Child.{Child}
 use Rattle.basic_toml_grow.specs.declared.item.Table.{Table}
 use Rattle.basic_toml_grow.proofs.ItemsStand.{shape}
-use Rattle.basic_toml_grow.proofs.SimpleKeys.{keys_differ}
-use Rattle.basic_toml_tree.specs.Data.{data_of, row_pair}
+use Rattle.basic_toml_tree.specs.Data.{data_of}
 use Rattle.basic_toml_tree.specs.Keys.{KeysLead, KeepsRow, RowsLead}
 use Rattle.basic_toml_tree.specs.Nodes.{node_data, spot_data, data_among, data_at, entries_in, entries_left}
 use Rattle.basic_toml_tree.specs.Nodes.{key_and_data}
@@ -57,8 +61,6 @@ use Rattle.basic_toml_tree.specs.declared.plain_value.PlainValue.{PlainValue}
 use Rattle.basic_toml_tree.specs.declared.spot.Spot.{Spot}
 use Rattle.basic_toml_tree.specs.declared.spot.Spot.TheVariants as spots
 use Rattle.basic_toml_tree.specs.declared.tree.Tree.{Tree}
-use Rattle.basic_toml_tree.proofs.RowsData.{few_data, row_keys}
-use Rattle.basic_toml_tree.proofs.PlainLeft.{row_at}
 use Rattle.basic_toml_tree.proofs.Nodes.KeysLead.{EndsAt, last_step}
 use Rattle.basic_toml_tree.proofs.Nodes.KeysTold.{count_keeps, made_there}
 use Rattle.basic_toml_tree.proofs.Nodes.Lines.{around_key}

@@ -11,9 +11,10 @@ use Rattle.basic_toml_value.specs.Pairs.{keys_of, value_at}
 use Rattle.basic_toml_value.proofs.KeysChanged.{first_at}
 use Rattle.basic_toml_read.specs.SectionView.{raw_of}
 use Rattle.basic_toml_read.specs.declared.section.Row.{Row, out-Row}
-use Rattle.basic_toml_grow.specs.Item.{child_trie, item_trie, leaf, table_trie}
+use Rattle.basic_toml_plain.specs.Tries.{leaf}
+use Rattle.basic_toml_plain.specs.Plain.{are_few_simple, is_plain, key_of, plain_data, rows_data}
+use Rattle.basic_toml_grow.specs.Item.{child_trie, item_trie, table_trie}
 use Rattle.basic_toml_grow.specs.Origins.{child_origins, value_origins}
-use Rattle.basic_toml_grow.specs.Plain.{are_few_simple, is_plain, key_of, plain_data, rows_data}
 use Rattle.basic_toml_grow.specs.Simple.{child_of, entries_of, section_table}
 use Rattle.basic_toml_grow.specs.declared.item.Item.{Item, out-Item, the_lemmas}
 use Rattle.basic_toml_grow.specs.declared.item.Item as items

@@ -1,5 +1,5 @@
 -- One of the tables of an array of tables stands at its number, whether they have entries or stand as they were read.
-use Rattle.std.proofs.Common.{◌≡◌, ◌==◌, ℕ, zero, suc, ◌+◌, true, false, List, [], ◌∷◌, ◌++◌, Some, None, ap, sym, ◌∙◌}
+use Rattle.std.proofs.Common.{◌≡◌, ◌==◌, ℕ, zero, suc, ◌+◌, true, false, List, [], ◌∷◌, ◌++◌, Some, ap, sym, ◌∙◌}
 use Rattle.std.proofs.Common.{subst, arith, map, Vec, Box, Global, inr}
 use Rattle.std.specs.Prelude.{slice_get, nat_eq}
 use Rattle.std.specs.Borrow.{Bor}
@@ -7,17 +7,20 @@ use Rattle.std.proofs.Math.Path.{fun_ext}
 use Rattle.std.proofs.lemmas.List.{map-append}
 use Rattle.basic_toml_grammar.specs.Steps.{number, Path}
 use Rattle.basic_toml_grammar.specs.Trie.{Trie, below, find}
-use Rattle.basic_toml_grow.specs.Item.{by_numbers, item_trie, rows_trie, table_trie}
+use Rattle.basic_toml_plain.specs.Tries.{rows_trie}
+use Rattle.basic_toml_plain.specs.Plain.{are_few_simple}
+use Rattle.basic_toml_plain.specs.PlainTables.{SectionTable, SectionTables, tables_in}
+use Rattle.basic_toml_plain.specs.Values.{section_data}
+use Rattle.basic_toml_plain.proofs.RowsData.{few_data}
+use Rattle.basic_toml_grow.specs.Item.{by_numbers, item_trie, table_trie}
 use Rattle.basic_toml_grow.specs.Origins.{item_origins, of_table, section_origins, table_within, under}
-use Rattle.basic_toml_grow.specs.Plain.{are_few_simple}
-use Rattle.basic_toml_grow.specs.PlainTables.{SectionTable, SectionTables, tables_in}
 use Rattle.basic_toml_grow.specs.Simple.{table_of as table_read}
 use Rattle.basic_toml_grow.specs.declared.item.Item.{Item, Sections, Tables}
 use Rattle.basic_toml_grow.specs.declared.item.Table.{Table}
 use Rattle.basic_toml_grow.proofs.SectionTables.{section_trie, section_within}
 use Rattle.basic_toml_grow.proofs.TablesOpened.{section_item_trie, sections_trie, tables_trie}
 use Rattle.basic_toml_grow.proofs.Origins.OriginsSeen.{sections_seen, tables_seen}
-use Rattle.basic_toml_tree.specs.Data.{data_of, section_data, table_data}
+use Rattle.basic_toml_tree.specs.Data.{data_of, table_data}
 use Rattle.basic_toml_tree.specs.HeaderTables.{table_of}
 use Rattle.basic_toml_tree.specs.Nodes.{elements_in, node_data, spot_data}
 use Rattle.basic_toml_tree.specs.Stands.{AtNumber, ComesFrom, IsBeside, node_origins, spot_origins, spot_trie}
@@ -25,7 +28,6 @@ use Rattle.basic_toml_tree.specs.Stands.{wraps_table}
 use Rattle.basic_toml_tree.specs.declared.node.Node.{Node}
 use Rattle.basic_toml_tree.specs.declared.spot.HeaderTable.{HeaderTable}
 use Rattle.basic_toml_tree.specs.declared.spot.Spot.TheVariants as spots
-use Rattle.basic_toml_tree.proofs.RowsData.{few_data}
 use Rattle.basic_toml_tree.proofs.SectionData.{section_table_data}
 use Rattle.basic_toml_tree.proofs.Nodes.KeysLead.{count_beside, keys_beside, rows_beside}
 use Rattle.basic_toml_tree.proofs.Nodes.NodesCome.{read_mapped, table_node_comes}

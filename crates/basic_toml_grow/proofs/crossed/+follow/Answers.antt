@@ -1,11 +1,11 @@
 use Rattle.std.proofs.Common.{◌≡◌, ◌++◌, ◌∷◌, [], List, ℕ, sym, ap, ◌∙◌, subst, rules, slice_get}
 use Rattle.basic_toml_value.specs.Growth.{values_of}
+use Rattle.basic_toml_plain.proofs.WhatIsLeft.{nothing_left}
 use Rattle.basic_toml_grow.specs.declared.crossed.KeyTree.{out-KeyTree}
 use Rattle.basic_toml_grammar.specs.Sections.{KeyTexts}
 use Rattle.basic_toml_read.specs.declared.section.Key as keys
 use Rattle.basic_toml_read.specs.SectionView.{header_texts}
 use Rattle.basic_toml_grow.specs.KeyTree.{ends_of, Follows, FollowsTo}
-use Rattle.basic_toml_grow.proofs.WhatIsLeft.{nothing_left}
 use Rattle.basic_toml_grow.proofs.KeyTreeGrows.{filled, met_here, rolled_below, row_below, row_on}
 use Rattle.basic_toml_grow.proofs.crossed.+follow.Goals as goal
 

@@ -7,7 +7,8 @@ use Rattle.basic_toml_grow.specs.Crossed.{crossed_between, crossed_among, crosse
 use Rattle.basic_toml_grow.specs.Crossed.{Looks}
 use Rattle.basic_toml_grow.proofs.FirstGathered.{found_at, none_more, none_in_all, looks_more}
 use Rattle.basic_toml_read.proofs.NextRow.{lined_is}
-use Rattle.basic_toml_grow.proofs.RowsOfKeys.{placed_is, row_values, element_values}
+use Rattle.basic_toml_read.proofs.ViewsSeen.{placed_is}
+use Rattle.basic_toml_grow.proofs.RowsOfKeys.{row_values, element_values}
 use Rattle.basic_toml_grow.proofs.crossed.+looking.Goals as goal
 
 pub look_among-returns-in_err-look_into : goal.look_among-returns-in_err-look_into

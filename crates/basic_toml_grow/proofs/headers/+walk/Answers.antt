@@ -18,20 +18,20 @@ use Rattle.basic_toml_grow.specs.declared.item.Item as items
 use Rattle.basic_toml_grow.specs.declared.item.Item.{Item}
 use Rattle.basic_toml_grow.specs.declared.item.Child.{Child, out-Child}
 use Rattle.basic_toml_grow.specs.Item.{child_trie, is_section, item_trie, table_trie, trie_before}
-use Rattle.basic_toml_grow.specs.Plain.{are_few_simple}
+use Rattle.basic_toml_plain.specs.Plain.{are_few_simple}
 use Rattle.basic_toml_grow.specs.Headers.{EntersItem, entered_at, entered_by, is_last, IsNew, steps_at, steps_by, obstacle_at}
 use Rattle.basic_toml_grow.specs.Obstacles.{keys_obstacle}
 use Rattle.basic_toml_grow.specs.Origins.{child_origins, item_origins, no_origins, Origins, origins_before, rows_origins}
 use Rattle.basic_toml_grow.specs.Ways.{way_at, way_by, GrowsAlong, MarksWay, MarksTable, way}
 use Rattle.basic_toml_grammar.specs.Steps.{Path, number}
 use Rattle.basic_toml_grow.proofs.RowsEntered.{ok_on}
-use Rattle.basic_toml_grow.proofs.PlainValues.{few_lower}
+use Rattle.basic_toml_plain.proofs.PlainValues.{few_lower}
 use Rattle.basic_toml_grow.proofs.RowsLeft.{no_parents_seen}
 use Rattle.basic_toml_grow.proofs.SectionsEntered.{section_entered, section_grows, section_marks}
 use Rattle.basic_toml_grow.proofs.SectionsAdded.{added_marks, first_added, first_grows}
 use Rattle.basic_toml_grow.proofs.SectionsAdded.{child_added, child_grows, child_marks}
-use Rattle.basic_toml_grow.specs.PlainTables.{with_table}
-use Rattle.basic_toml_grow.proofs.WhatIsLeft.{nothing_left}
+use Rattle.basic_toml_plain.specs.PlainTables.{with_table}
+use Rattle.basic_toml_plain.proofs.WhatIsLeft.{nothing_left}
 use Rattle.basic_toml_grow.specs.declared.item.Table.{Table}
 use Rattle.basic_toml_grow.specs.Origins.{table_within}
 use Rattle.basic_toml_grow.proofs.HeadersInATrie.{array_of}
@@ -256,8 +256,8 @@ kept_are t c =
           c.as_slice.ensures.value c.in_ok-kept.ensures.tail c.are_few_simple.ensures few,
     )
 
-pub enter_last-invariant_of-at : goal.enter_last-invariant_of-at
-enter_last-invariant_of-at t c =
+pub enter_last-new-requires : goal.enter_last-new-requires
+enter_last-new-requires t c =
     let few : c.are_few_simple.result ≡ true = grind (arith, c.if-not-are_few_simple.false) in
     few_lower c.in_ok-kept.kept.items (c.args.level + 1)
     (are_kept (c.args.level + 1) c.as_slice.result.now (tables.out-Rows c.args.rows.now).rows.items
@@ -282,7 +282,7 @@ enter_last-returns-then-place-clause-entered t c =
     (subst (λ (rs : Rows). EntersItem (entered_at false rs [] nothing) rs (c.args.level + steps_at false [] nothing)
     (child_trie now) (Ok tt)) (sym are.0)
     (subst (λ (after : Trie). EntersItem (entered_at false (rows_seen [] rows) [] nothing) (rows_seen [] rows)
-    (c.args.level + steps_at false [] nothing) after (Ok tt)) (sym c.at.ensures.trie)
+    (c.args.level + steps_at false [] nothing) after (Ok tt)) (sym (c.at.ensures.trie ∙ ap (λ rows. item_trie (items.Section rows)) c.new.ensures))
     (section_entered c.args.number c.args.level rows (omega arith) are.1))))
 
 pub enter_last-returns-then-place-clause-origins : goal.enter_last-returns-then-place-clause-origins
@@ -303,7 +303,7 @@ enter_last-returns-then-place-clause-origins t c =
     (sym c.if-place.true)
     (subst (λ (rs : Rows). GrowsAlong [] (rows_origins n rs) no_origins (child_origins now)) (sym are.0)
     (subst (λ (after : Origins). GrowsAlong [] (rows_origins n (rows_seen [] rows)) no_origins after)
-    (sym c.at.ensures.origins) (section_grows n c.args.level rows 0))))
+    (sym (c.at.ensures.origins ∙ ap (λ rows. item_origins (items.Section rows) 0 n) c.new.ensures)) (section_grows n c.args.level rows 0))))
 
 pub enter_last-returns-then-place-clause-marks : goal.enter_last-returns-then-place-clause-marks
 enter_last-returns-then-place-clause-marks t c =
@@ -320,7 +320,7 @@ enter_last-returns-then-place-clause-marks t c =
     (ap (λ k. k ∷ []) (sym c.as_str.ensures.value)) pass (passed_number c.args.table.now new n p.position now)
     (subst (λ (b : Bool). MarksWay n (way_at false [] (trie_before b (child_trie child))) (child_origins now))
     (sym c.if-place.true)
-    (subst (λ (after : Origins). MarksWay n [] after) (sym c.at.ensures.origins)
+    (subst (λ (after : Origins). MarksWay n [] after) (sym (c.at.ensures.origins ∙ ap (λ rows. item_origins (items.Section rows) 0 n) c.new.ensures))
     (section_marks n c.args.level rows 0)))
 
 pub enter_last-returns-then-place-clause-taken : goal.enter_last-returns-then-place-clause-taken

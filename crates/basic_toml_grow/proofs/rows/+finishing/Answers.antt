@@ -6,6 +6,10 @@ use Rattle.basic_toml_grammar.specs.Trie.{Trie}
 use Rattle.basic_toml_read.specs.SectionView.{key_of, header_texts, rows_seen, rows_view, elements_view, raw_of}
 use Rattle.basic_toml_read.specs.declared.section.Row.{Row, out-Row}
 use Rattle.basic_toml_read.specs.declared.section.Element.{Element}
+use Rattle.basic_toml_plain.specs.Plain.{are_plain, key_of as last_key, are_all_plain}
+use Rattle.basic_toml_plain.proofs.PlainValues.{elements_lower, few_lower}
+use Rattle.basic_toml_plain.proofs.WhatIsLeft.{nothing_left}
+use Rattle.basic_toml_plain.proofs.SimpleKeys.{few_seen}
 use Rattle.basic_toml_grow.specs.declared.item.Child.{Child}
 use Rattle.basic_toml_grammar.specs.Standing as standings
 use Rattle.basic_toml_grow.specs.Item.{child_trie, item_trie, table_trie}
@@ -14,7 +18,7 @@ use Rattle.std.specs.Box as boxes
 use Rattle.basic_toml_grow.proofs.RowsEntered.{row_key, ok_on}
 use Rattle.basic_toml_grow.proofs.RowsLeft.{AreLeft, all_left, no_parents_seen, row_entered, row_kept_out}
 use Rattle.basic_toml_grow.proofs.RowsLeft.{none_left, row_stopped}
-use Rattle.basic_toml_grow.proofs.RowsHaveKeys.{one_has_keys, are_keyed, rows_are_keyed}
+use Rattle.basic_toml_read.proofs.RowsHaveKeys.{one_has_keys, are_keyed, rows_are_keyed}
 use Rattle.basic_toml_read.proofs.NextRow.{first_row, parents_left}
 use Rattle.basic_toml_read.specs.declared.section.Key as keys
 use Rattle.basic_toml_read.specs.declared.section.Raw as raws
@@ -39,13 +43,9 @@ use Rattle.basic_toml_grow.proofs.Origins.OriginsSeen.{inline_seen, fresh_within
 use Rattle.basic_toml_grow.proofs.Origins.OriginsLeft.{OriginsLeft, ElementsCome, origins_entered, origins_done}
 use Rattle.basic_toml_grow.proofs.Origins.OriginsLeft.{row_comes, element_comes, elements_come}
 use Rattle.basic_toml_grow.specs.declared.item.Item as items
-use Rattle.basic_toml_grow.specs.Plain.{are_plain, key_of as last_key}
 use Rattle.basic_toml_grow.proofs.PlainArrays.{plain_finished, table_finished}
-use Rattle.basic_toml_grow.proofs.PlainValues.{elements_lower, few_lower}
 use Rattle.basic_toml_index.specs.Keys.{are_distinct}
-use Rattle.basic_toml_grow.proofs.WhatIsLeft.{nothing_left}
-use Rattle.basic_toml_grow.proofs.SimpleKeys.{few_seen}
-use Rattle.basic_toml_grow.specs.Simple.{are_all_plain, entries_of, with_entries}
+use Rattle.basic_toml_grow.specs.Simple.{entries_of, with_entries}
 use Rattle.basic_toml_grow.proofs.SimpleRows.{all_lower}
 use Rattle.basic_toml_grow.proofs.RowsAfter.{FirstIn, first_in, all_entered, all_stopped, all_come}
 use Rattle.basic_toml_grow.proofs.rows.+finishing.Goals as goal
@@ -332,8 +332,8 @@ array_seen : (l : ℕ) (elements seen : List Element) (looked : Bool) → seen �
 array_seen l elements seen looked same is plain = ap (are_plain l) (sym same) ∙ sym is ∙ plain
 
 -- an array of plain values, kept as it was read
-pub row_value-invariant_of-array : goal.row_value-invariant_of-array
-row_value-invariant_of-array t c =
+pub row_value-new-array-requires : goal.row_value-new-array-requires
+row_value-new-array-requires t c =
     elements_lower c.in-Array.elements.items (c.args.level + 1)
     (array_seen (c.args.level + 1) c.in-Array.elements.items c.as_slice.result.now c.are_plain.result
     c.as_slice.ensures.value c.are_plain.ensures c.if-are_plain.true)
@@ -342,14 +342,15 @@ pub row_value-returns-then-are_plain-clause-finished : goal.row_value-returns-th
 row_value-returns-then-are_plain-clause-finished t c =
     let plain = array_seen (c.args.level + 1) c.in-Array.elements.items c.as_slice.result.now c.are_plain.result
     c.as_slice.ensures.value c.are_plain.ensures c.if-are_plain.true in
-    let trie : child_trie c.at.result ≡ item_trie (items.Plain c.in-Array.elements.items) = c.at.ensures.trie in
+    let trie : child_trie c.at.result ≡ item_trie (items.Plain c.in-Array.elements.items) =
+    c.at.ensures.trie ∙ ap (λ es. item_trie (items.Plain es)) c.new-array.ensures in
     subst (λ (v : raws.Raw). IsFinished (raw_of v) c.args.level (child_trie c.at.result)) (sym c.in-Array.is)
     (subst (λ (u : Trie). IsFinished (raw_of (raws.Array c.in-Array.elements)) c.args.level u) (sym trie)
     (plain_finished c.in-Array.elements c.args.level plain c.if-level-lt-NESTING_LIMIT.true))
 
 -- and an inline table
-pub row_value-invariant_of-table : goal.row_value-invariant_of-table
-row_value-invariant_of-table t c =
+pub row_value-new-table-requires : goal.row_value-new-table-requires
+row_value-new-table-requires t c =
     few_lower c.in-Inline.rows.items (c.args.level + 1)
     (few_seen (c.args.level + 1) c.in-Inline.rows.items c.as_slice-then-level-lt-NESTING_LIMIT-2.result.now
     c.are_few_simple.result c.as_slice-then-level-lt-NESTING_LIMIT-2.ensures.value c.are_few_simple.ensures
@@ -361,7 +362,7 @@ row_value-returns-then-are_few_simple-clause-finished t c =
     c.are_few_simple.result c.as_slice-then-level-lt-NESTING_LIMIT-2.ensures.value c.are_few_simple.ensures
     c.if-are_few_simple.true in
     let trie : child_trie c.at-then-are_few_simple.result ≡ item_trie (items.Rows c.in-Inline.rows.items) =
-    c.at-then-are_few_simple.ensures.trie in
+    c.at-then-are_few_simple.ensures.trie ∙ ap (λ rows. item_trie (items.Rows rows)) c.new-table.ensures in
     subst (λ (v : raws.Raw). IsFinished (raw_of v) c.args.level (child_trie c.at-then-are_few_simple.result))
     (sym c.in-Inline.is)
     (subst (λ (u : Trie). IsFinished (raw_of (raws.Inline c.in-Inline.rows)) c.args.level u) (sym trie)

@@ -1,6 +1,9 @@
 use Rattle.std.proofs.Common.{refl, rules, ◌≡◌, [], ap, ◌∙◌, sym, subst, arith}
 use Rattle.std.proofs.Common.{true}
 use Rattle.basic_toml_read.specs.SectionView.{rows_seen, rows_view}
+use Rattle.basic_toml_plain.specs.Plain.{are_simple}
+use Rattle.basic_toml_plain.proofs.WhatIsLeft.{nothing_left}
+use Rattle.basic_toml_plain.proofs.SimpleKeys.{few_seen, keys_differ, few_are_plain, few_are_simple}
 use Rattle.basic_toml_grow.specs.Item.{table_trie}
 use Rattle.basic_toml_grow.specs.Rows.{AreIn}
 use Rattle.basic_toml_grow.proofs.RowsLeft.{none_seen, no_parents_seen, none_put}
@@ -9,10 +12,6 @@ use Rattle.basic_toml_read.specs.declared.section.Rows as tables
 use Rattle.basic_toml_grammar.specs.Sections.{Rows}
 use Rattle.basic_toml_grow.specs.Origins.{table_within, with_more, rows_origins}
 use Rattle.basic_toml_grow.proofs.Origins.OriginsLeft.{more_none}
-use Rattle.basic_toml_grow.specs.Plain.{are_simple}
-use Rattle.basic_toml_grow.proofs.WhatIsLeft.{nothing_left}
-use Rattle.basic_toml_grow.proofs.SimpleKeys.{few_seen, keys_differ}
-use Rattle.basic_toml_grow.proofs.SectionTables.{few_are_plain, few_are_simple}
 use Rattle.basic_toml_grow.specs.declared.item.Table.{Table, out-Table}
 use Rattle.basic_toml_grow.proofs.SimpleRows.{no_entries, all_lower, rows_in, rows_come}
 use Rattle.basic_toml_grow.proofs.rows.take_rows.Goals as goal

@@ -2,12 +2,12 @@ use Rattle.std.proofs.Common.{◌≡◌, ◌+◌, List, [], ◌∷◌, ◌++◌,
 use Rattle.std.specs.List.{list_all}
 use Rattle.std.proofs.lemmas.List.{map_push, nil_from_length, same_from_push}
 use Rattle.basic_toml_read.specs.declared.section.Row.{Row}
+use Rattle.basic_toml_plain.specs.declared.section_rows.SectionRows.{SectionRows}
+use Rattle.basic_toml_plain.specs.PlainTables.{SectionTable, SectionTables, are_parts, parts, tables_in}
+use Rattle.basic_toml_plain.specs.Plain.{are_few_simple}
+use Rattle.basic_toml_plain.proofs.PartsOfRows.{FirstPart, all_tables, first_part, parts_are_plain, parts_are_simple}
 use Rattle.basic_toml_grow.specs.declared.item.Table.{Table}
-use Rattle.basic_toml_grow.specs.declared.section_rows.SectionRows.{SectionRows}
-use Rattle.basic_toml_grow.specs.PlainTables.{SectionTable, SectionTables, are_parts, parts, tables_in}
 use Rattle.basic_toml_grow.specs.Simple.{section_table, table_of}
-use Rattle.basic_toml_grow.specs.Plain.{are_few_simple}
-use Rattle.basic_toml_grow.proofs.PartsOfRows.{FirstPart, all_tables, first_part, parts_are_plain, parts_are_simple}
 use Rattle.basic_toml_grow.proofs.sections.tables_of.Goals.{In-Some, After-drop-rows-inside-2}
 use Rattle.basic_toml_grow.proofs.sections.tables_of.Goals as goal
 

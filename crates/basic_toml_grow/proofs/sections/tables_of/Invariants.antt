@@ -1,6 +1,6 @@
 use Rattle.std.proofs.Common.{◌≡◌, ℕ, [], ◌∷◌, ◌++◌, true, map, ◌+◌, ◌≤◌, length}
 use Rattle.std.specs.Vec.{vec_len, vec_capacity}
-use Rattle.basic_toml_grow.specs.PlainTables.{are_parts, parts}
+use Rattle.basic_toml_plain.specs.PlainTables.{are_parts, parts}
 use Rattle.basic_toml_grow.specs.Simple.{table_of}
 use Rattle.basic_toml_grow.proofs.sections.tables_of.Given as goal
 

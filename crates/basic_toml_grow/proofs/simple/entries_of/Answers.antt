@@ -1,10 +1,10 @@
 use Rattle.std.proofs.Common.{◌≡◌, suc, ◌+◌, ◌-◌, ◌++◌, ap, ap₂, sym, ◌∙◌, map, length, take, drop, arith}
 use Rattle.basic_toml_value.specs.Entries.{pair_seen}
 use Rattle.basic_toml_value.specs.Text.{text_bytes}
-use Rattle.basic_toml_grow.specs.Plain.{key_of}
-use Rattle.basic_toml_grow.proofs.WhatIsLeft.{mapped_next}
-use Rattle.basic_toml_grow.specs.Simple.{entry_of, are_all_plain}
-use Rattle.basic_toml_grow.proofs.SimpleRows.{first_plain, others_plain}
+use Rattle.basic_toml_plain.specs.Plain.{key_of, are_all_plain}
+use Rattle.basic_toml_plain.proofs.WhatIsLeft.{mapped_next}
+use Rattle.basic_toml_plain.proofs.SimpleKeys.{first_plain, others_plain}
+use Rattle.basic_toml_grow.specs.Simple.{entry_of}
 use Rattle.basic_toml_grow.proofs.simple.entries_of.Goals as goal
 
 pub loop-init : goal.loop-init

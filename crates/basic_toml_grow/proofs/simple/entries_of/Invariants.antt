@@ -1,7 +1,8 @@
 use Rattle.std.proofs.Common.{◌≡◌, ◌≤◌, ◌+◌, ◌-◌, ◌++◌, map, length, take, drop, true}
 use Rattle.std.specs.Vec.{vec_len, vec_capacity}
 use Rattle.basic_toml_value.specs.Entries.{pair_seen}
-use Rattle.basic_toml_grow.specs.Simple.{entry_of, are_all_plain}
+use Rattle.basic_toml_plain.specs.Plain.{are_all_plain}
+use Rattle.basic_toml_grow.specs.Simple.{entry_of}
 use Rattle.basic_toml_grow.proofs.simple.entries_of.Given as goal
 
 -- the rows passed are entries, in order, so many are to be passed yet, all left are plain, and there is room for them

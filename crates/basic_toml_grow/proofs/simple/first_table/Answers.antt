@@ -5,12 +5,11 @@ use Rattle.basic_toml_index.specs.Index.{few}
 use Rattle.basic_toml_index.specs.Keys.{are_distinct}
 use Rattle.basic_toml_value.specs.Pairs.{keys_of}
 use Rattle.basic_toml_value.proofs.KeysSeen.{keys_of-seen}
-use Rattle.basic_toml_grow.specs.Plain.{are_simple, key_of}
+use Rattle.basic_toml_plain.specs.Plain.{are_simple, key_of}
+use Rattle.basic_toml_plain.proofs.SimpleKeys.{few_are_simple, keys_differ}
 use Rattle.basic_toml_grow.specs.declared.item.Item.TheViews.{roll-Table}
 use Rattle.basic_toml_grow.specs.declared.item.Child.{Child}
 use Rattle.basic_toml_grow.specs.declared.item.Table.{Table}
-use Rattle.basic_toml_grow.proofs.SectionTables.{few_are_simple}
-use Rattle.basic_toml_grow.proofs.SimpleKeys.{keys_differ}
 use Rattle.basic_toml_grow.proofs.SimpleRows.{entry_keys}
 use Rattle.basic_toml_grow.proofs.simple.first_table.Goals as goal
 

@@ -1,7 +1,8 @@
 use Rattle.std.proofs.Common.{◌≡◌, ap, ◌∙◌, take, arith}
 use Rattle.std.proofs.lemmas.List.{take_all}
-use Rattle.basic_toml_grow.specs.Simple.{are_all_plain, section_table}
-use Rattle.basic_toml_grow.proofs.SectionTables.{few_are_plain}
+use Rattle.basic_toml_plain.specs.Plain.{are_all_plain}
+use Rattle.basic_toml_plain.proofs.SimpleKeys.{few_are_plain}
+use Rattle.basic_toml_grow.specs.Simple.{section_table}
 use Rattle.basic_toml_grow.proofs.simple.section_table.Goals as goal
 
 pub first_table-requires-clause-plain : goal.first_table-requires-clause-plain

@@ -3,7 +3,7 @@ use Rattle.std.proofs.lemmas.List.{take-map}
 use Rattle.basic_toml_index.specs.Index.{IsIndex}
 use Rattle.basic_toml_value.specs.Pairs.{keys_of}
 use Rattle.basic_toml_value.proofs.KeysSeen.{keys_of-seen}
-use Rattle.basic_toml_grow.specs.Plain.{key_of}
+use Rattle.basic_toml_plain.specs.Plain.{key_of}
 use Rattle.basic_toml_grow.proofs.SimpleRows.{entry_keys}
 use Rattle.basic_toml_grow.proofs.simple.with_first_rows.Goals as goal
 

@@ -3,8 +3,8 @@ use Rattle.std.proofs.lemmas.List.{length-map, take_all, drop_all}
 use Rattle.basic_toml_index.specs.Keys.{are_distinct}
 use Rattle.basic_toml_value.specs.Pairs.{keys_of}
 use Rattle.basic_toml_value.proofs.KeysSeen.{keys_of-seen}
-use Rattle.basic_toml_grow.specs.Plain.{key_of}
-use Rattle.basic_toml_grow.specs.Simple.{are_all_plain, entries_of, with_entries}
+use Rattle.basic_toml_plain.specs.Plain.{key_of, are_all_plain}
+use Rattle.basic_toml_grow.specs.Simple.{entries_of, with_entries}
 use Rattle.basic_toml_grow.proofs.SimpleRows.{entry_keys}
 use Rattle.basic_toml_grow.proofs.simple.with_rows.Goals as goal
 

@@ -3,7 +3,7 @@ use Rattle.std.specs.Str.{bytes_eq}
 use Rattle.std.proofs.lemmas.List.{take_all}
 use Rattle.std.proofs.lemmas.Slice.Eq.{bytes_eq-Decides}
 use Rattle.basic_toml_index.specs.Keys.{is_among}
-use Rattle.basic_toml_grow.specs.Plain.{key_of}
+use Rattle.basic_toml_plain.specs.Plain.{key_of}
 use Rattle.basic_toml_tree.proofs.Nodes.RowNodes.{row_read, none_passed}
 use Rattle.basic_toml_tree.proofs.node.row_at.Goals as goal
 

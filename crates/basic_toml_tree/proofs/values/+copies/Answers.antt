@@ -3,13 +3,14 @@ use Rattle.basic_toml_value.specs.Data.{Data, items_of, members_of}
 use Rattle.basic_toml_value.specs.View.{view, entries}
 use Rattle.basic_toml_value.specs.Entries.{texts_of}
 use Rattle.basic_toml_value.proofs.Sizes.{data_size, items_size}
-use Rattle.basic_toml_grow.specs.Plain.{element_data, rows_data}
-use Rattle.basic_toml_grow.specs.PlainTables.{tables_in}
-use Rattle.basic_toml_tree.specs.Data.{data_of, child_data, table_data, child_pair, value_pair, section_data}
-use Rattle.basic_toml_tree.proofs.DataParts.{items_size-at, items_size-front, items_size-last, members_size-at}
-use Rattle.basic_toml_tree.proofs.DataParts.{mapped_more, array_seen, sections_seen}
+use Rattle.basic_toml_plain.specs.Plain.{element_data, rows_data}
+use Rattle.basic_toml_plain.specs.PlainTables.{tables_in}
+use Rattle.basic_toml_plain.specs.Values.{value_pair, section_data}
+use Rattle.basic_toml_plain.proofs.DataParts.{items_size-at, items_size-front, items_size-last, members_size-at}
+use Rattle.basic_toml_plain.proofs.DataParts.{mapped_more, array_seen, sections_seen, table_seen, entries_seen}
+use Rattle.basic_toml_tree.specs.Data.{data_of, child_data, table_data, child_pair}
 use Rattle.basic_toml_tree.proofs.ItemData.{child_item, plain_elements, rows_item, sections_item, tables_data}
-use Rattle.basic_toml_tree.proofs.ItemData.{table_of_pairs, table_seen, entries_seen, keys_copied, refused_held}
+use Rattle.basic_toml_tree.proofs.ItemData.{table_of_pairs, keys_copied, refused_held}
 use Rattle.basic_toml_tree.proofs.ItemData.{tables_whole}
 use Rattle.basic_toml_tree.proofs.SectionData.{section_rows}
 use Rattle.basic_toml_tree.proofs.values.+copies.Goals as goal

@@ -2,7 +2,8 @@ use Rattle.std.proofs.Common.{◌≡◌, ◌+◌, ◌*◌, map, take}
 use Rattle.basic_toml_value.specs.Data.{items_of, members_of}
 use Rattle.basic_toml_value.specs.View.{view}
 use Rattle.basic_toml_value.proofs.Sizes.{data_size, items_size, members_size}
-use Rattle.basic_toml_tree.specs.Data.{data_of, child_data, table_data, child_pair, value_pair}
+use Rattle.basic_toml_plain.specs.Values.{value_pair}
+use Rattle.basic_toml_tree.specs.Data.{data_of, child_data, table_data, child_pair}
 use Rattle.basic_toml_tree.proofs.values.+copies.Given as goal
 
 abbrev pub decreases-value_of : goal.decreases-value_of

@@ -1,15 +1,16 @@
-use Rattle.std.proofs.Common.{◌≡◌, length, ap, arith, sym, ◌∙◌, refl, ◌++◌, map, subst, List, ℕ, IfOk}
+use Rattle.std.proofs.Common.{◌≡◌, length, ap, arith, sym, ◌∙◌, refl, ◌++◌, map, subst, List, ℕ}
 use Rattle.basic_toml_value.specs.Data.{Data, items_of, members_of}
 use Rattle.basic_toml_value.specs.View.{view, entries}
 use Rattle.basic_toml_index.specs.Index.{IsIndex}
 use Rattle.basic_toml_value.proofs.Sizes.{data_size, items_size, members_size}
-use Rattle.basic_toml_tree.specs.Data.{data_of, child_data, table_data, child_pair, value_pair}
-use Rattle.basic_toml_tree.proofs.DataParts.{items_size-rest, items_size-front, items_size-last, members_size-rest}
-use Rattle.basic_toml_grow.proofs.WhatIsLeft.{mapped_next, nothing_left, none_after}
-use Rattle.basic_toml_tree.proofs.DataParts.{array_seen}
+use Rattle.basic_toml_plain.specs.Values.{value_pair}
+use Rattle.basic_toml_plain.proofs.DataParts.{items_size-rest, items_size-front, items_size-last, members_size-rest}
+use Rattle.basic_toml_plain.proofs.DataParts.{array_seen, table_seen, entries_seen}
+use Rattle.basic_toml_plain.proofs.WhatIsLeft.{mapped_next, nothing_left, none_after}
+use Rattle.basic_toml_tree.specs.Data.{data_of, child_data, table_data, child_pair}
 use Rattle.basic_toml_tree.proofs.ItemData.{child_item, children_data, inline_data, table_item_data}
-use Rattle.basic_toml_tree.proofs.ItemData.{sections_item, table_of_pairs, tables_data, table_seen}
-use Rattle.basic_toml_tree.proofs.ItemData.{entries_seen, keys_copied, refused_held, tables_whole}
+use Rattle.basic_toml_tree.proofs.ItemData.{table_of_pairs, tables_data}
+use Rattle.basic_toml_tree.proofs.ItemData.{keys_copied, refused_held, tables_whole}
 use Rattle.basic_toml_value.proofs.KeysSeen.{keys_of-seen}
 use Rattle.basic_toml_tree.proofs.SectionData.{section_moved}
 use Rattle.basic_toml_tree.proofs.values.+moves.Goals as goal

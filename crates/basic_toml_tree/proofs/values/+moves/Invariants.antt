@@ -3,8 +3,9 @@ use Rattle.std.specs.Vec.{vec_len, vec_capacity}
 use Rattle.basic_toml_value.specs.Data.{items_of, members_of}
 use Rattle.basic_toml_value.specs.View.{view}
 use Rattle.basic_toml_value.proofs.Sizes.{data_size, items_size, members_size}
+use Rattle.basic_toml_plain.specs.Values.{value_pair}
 use Rattle.basic_toml_grow.specs.declared.item.Item.{Array, Tables}
-use Rattle.basic_toml_tree.specs.Data.{data_of, child_data, table_data, child_pair, value_pair}
+use Rattle.basic_toml_tree.specs.Data.{data_of, child_data, table_data, child_pair}
 use Rattle.basic_toml_tree.proofs.values.+moves.Given as goal
 
 abbrev pub decreases-into_value : goal.decreases-into_value

@@ -1,7 +1,7 @@
 use Rattle.std.proofs.Common.{ap, sym, ◌∙◌, map}
 use Rattle.basic_toml_value.specs.Data.{Data, items_of}
-use Rattle.basic_toml_grow.specs.Plain.{element_data}
-use Rattle.basic_toml_tree.proofs.DataParts.{array_seen}
+use Rattle.basic_toml_plain.specs.Plain.{element_data}
+use Rattle.basic_toml_plain.proofs.DataParts.{array_seen}
 use Rattle.basic_toml_tree.proofs.ItemData.{plain_elements}
 use Rattle.basic_toml_tree.proofs.values.into_plain_array.Goals as goal
 

@@ -1,5 +1,5 @@
 use Rattle.std.proofs.Common.{sym, ◌∙◌}
-use Rattle.basic_toml_tree.proofs.DataParts.{sections_seen}
+use Rattle.basic_toml_plain.proofs.DataParts.{sections_seen}
 use Rattle.basic_toml_tree.proofs.ItemData.{sections_item}
 use Rattle.basic_toml_tree.proofs.values.into_sections.Goals as goal
 

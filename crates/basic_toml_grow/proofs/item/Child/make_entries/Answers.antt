@@ -1,14 +1,12 @@
-use Rattle.std.proofs.Common.{◌≡◌, true, map, refl, ap, sym, ◌∙◌, subst, Vec, Box, Global}
+use Rattle.std.proofs.Common.{◌≡◌, true, map, refl, ap, sym, ◌∙◌, Vec, Box, Global}
 use denote.Hole.Carrier.{out}
-use Rattle.basic_toml_read.specs.declared.section.Row.{Row}
+use Rattle.basic_toml_plain.specs.PlainTables.{SectionTables, have_few_simple}
 use Rattle.basic_toml_grow.specs.declared.item.Item as items
 use Rattle.basic_toml_grow.specs.declared.item.Item.TheViews.{out-Item}
 use Rattle.basic_toml_grow.specs.declared.item.Child.{out-Child}
 use Rattle.basic_toml_grow.specs.declared.item.Table.{Table}
 use Rattle.basic_toml_grow.specs.Item.{item_trie, table_trie}
 use Rattle.basic_toml_grow.specs.Origins.{item_origins, of_table, table_within}
-use Rattle.basic_toml_grow.specs.Plain.{are_few_simple}
-use Rattle.basic_toml_grow.specs.PlainTables.{SectionTables, have_few_simple}
 use Rattle.basic_toml_grow.specs.Simple.{table_of}
 use Rattle.basic_toml_grow.proofs.ItemTries.{child_item_trie, table_child_trie}
 use Rattle.basic_toml_grow.proofs.SectionTables.{section_origins, section_trie}
@@ -21,33 +19,29 @@ use Rattle.basic_toml_grow.proofs.item.Child.make_entries.Goals as goal
 use Rattle.basic_toml_grow.proofs.item.Child.make_entries.Goals.{Joined-self-2, Joined-self-4}
 
 -- the section that stood there
-stood : (c : Joined-self-2) → (out-Child c.args.self.now).item ≡ items.Section c.replace-rows.result.items
+stood : (c : Joined-self-2) → (out-Child c.args.self.now).item ≡ items.Section c.into_rows.result.items
+unfolding out-Item out
 stood c =
-    c.in-Section.is
-    ∙ ap items.Section (sym c.in-Section.table-is ∙ sym c.table.view_is
-    ∙ sym (ap (λ (v : Vec Row Global). v.items) c.replace-rows.ensures.value))
-
-few : (c : Joined-self-2) → are_few_simple 0 c.replace-rows.result.items ≡ true
-few c =
-    subst (λ (v : Vec Row Global). are_few_simple 0 v.items ≡ true) (sym c.replace-rows.ensures.value) c.table.invariant
+    let same = c.into_rows.ensures.rows ∙ c.replace-table.ensures.value ∙ rw c.in-Section.is refl in
+    c.in-Section.is ∙ ap items.Section (sym same)
 
 pub returns-in_ok-table-in-Section-clause-trie : goal.returns-in_ok-table-in-Section-clause-trie
 returns-in_ok-table-in-Section-clause-trie c =
     let s = c.args.self.now.section in
-    let rows = c.replace-rows.result.items in
+    let rows = c.into_rows.result.items in
     table_child_trie c.args.self.now.start s c.in_ok-table-in-Section.table
     ∙ ap table_trie c.in_ok-table-in-Section.ensures
-    ∙ sym (section_trie s rows (few c))
+    ∙ sym (section_trie s rows c.into_rows.ensures.plain)
     ∙ sym (child_item_trie c.args.self.now ∙ ap item_trie (stood c))
 
 pub returns-in_ok-table-in-Section-clause-origins : goal.returns-in_ok-table-in-Section-clause-origins
 returns-in_ok-table-in-Section-clause-origins c =
     let at = c.args.self.now.start in
     let s = c.args.self.now.section in
-    let rows = c.replace-rows.result.items in
+    let rows = c.into_rows.result.items in
     child_of_table c.in_ok-table-in-Section.table at s
     ∙ ap (λ t. of_table at s (table_within t)) c.in_ok-table-in-Section.ensures
-    ∙ sym (section_origins s rows (few c) at)
+    ∙ sym (section_origins s rows c.into_rows.ensures.plain at)
     ∙ sym (child_seen c.args.self.now ∙ ap (λ i. item_origins i at s) (stood c))
 
 -- the array that stood there

@@ -1,7 +1,7 @@
 use Rattle.std.proofs.Common.{◌≡◌, ap, sym, ◌∙◌, refl, rules, subst, true}
 use Rattle.basic_toml_read.specs.declared.section.Raw as raws
-use Rattle.basic_toml_grow.specs.Plain.{is_plain, are_few_simple, rows_data}
-use Rattle.basic_toml_grow.proofs.PlainValues.{table_within}
+use Rattle.basic_toml_plain.specs.Plain.{is_plain, are_few_simple, rows_data}
+use Rattle.basic_toml_plain.proofs.PlainValues.{table_within}
 use Rattle.basic_toml_tree.specs.Data.{data_of}
 use Rattle.basic_toml_tree.specs.Nodes.{spot_data}
 use Rattle.basic_toml_grow.specs.Simple.{section_table}

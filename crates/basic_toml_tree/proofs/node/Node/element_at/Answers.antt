@@ -4,13 +4,14 @@ use Rattle.std.proofs.lemmas.Option.{slice_get_read}
 use Rattle.std.specs.Prelude.{slice_get, ◌≤◌}
 use Rattle.basic_toml_read.specs.declared.section.Element.{Element}
 use Rattle.basic_toml_grammar.specs.Mentions.{finished}
-use Rattle.basic_toml_grow.specs.Plain.{is_plain, are_plain, plain_array, plain_data}
-use Rattle.basic_toml_grow.proofs.PlainValues.{array_within}
 use Rattle.basic_toml_read.proofs.ViewsSeen.{array_of}
+use Rattle.basic_toml_plain.specs.Plain.{is_plain, are_plain, plain_array, plain_data}
+use Rattle.basic_toml_plain.specs.PlainTables.{SectionTable, tables_in}
+use Rattle.basic_toml_plain.specs.Values.{section_data}
+use Rattle.basic_toml_plain.proofs.PlainValues.{array_within}
 use Rattle.basic_toml_grow.specs.declared.item.Item.{Array, Plain, Rows, Sections, Tables}
-use Rattle.basic_toml_grow.specs.PlainTables.{SectionTable, tables_in}
 use Rattle.basic_toml_grow.specs.Simple.{table_of}
-use Rattle.basic_toml_tree.specs.Data.{data_of, child_data, section_data, table_data}
+use Rattle.basic_toml_tree.specs.Data.{data_of, child_data, table_data}
 use Rattle.basic_toml_tree.specs.Nodes.{node_data, spot_data, elements_in}
 use Rattle.basic_toml_tree.proofs.Nodes.NodesInOrder.{array_elements, sections_elements, tables_elements, mapped_read}
 use Rattle.basic_toml_tree.proofs.Nodes.NodesInOrder.{mapped_length}

@@ -1,8 +1,8 @@
 use Rattle.std.proofs.Common.{◌≡◌, ap, sym, ◌∙◌, rules}
+use Rattle.basic_toml_plain.proofs.DataParts.{table_seen}
 use Rattle.basic_toml_tree.specs.Nodes.{spot_data}
 use Rattle.basic_toml_tree.specs.declared.spot.HeaderTable.TheVariants as tables
 use Rattle.basic_toml_tree.specs.declared.spot.Spot.TheVariants as spots
-use Rattle.basic_toml_tree.proofs.ItemData.{table_seen}
 use Rattle.basic_toml_tree.proofs.SectionData.{section_table_data}
 use Rattle.basic_toml_tree.proofs.node.Node.to_value.Goals as goal
 

@@ -1,5 +1,5 @@
 use Rattle.std.proofs.Common.{◌≡◌, true, refl, ap, sym, ◌∙◌}
-use Rattle.basic_toml_grow.specs.Plain.{are_few_simple}
+use Rattle.basic_toml_plain.specs.Plain.{are_few_simple}
 use Rattle.basic_toml_grow.specs.declared.item.Child.{out-Child}
 use Rattle.basic_toml_grow.specs.declared.item.Item.{Section}
 use Rattle.basic_toml_tree.specs.declared.spot.HeaderTable.TheVariants.{Entries}

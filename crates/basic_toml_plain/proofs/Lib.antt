@@ -1,0 +1,10 @@
+pub mod PlainParts
+pub mod PlainSeen
+pub mod LoneRows
+pub mod SimpleKeys
+pub mod PlainValues
+pub mod PartsOfRows
+pub mod PlainLeft
+pub mod DataParts
+pub mod RowsData
+pub mod WhatIsLeft

@@ -1,0 +1,46 @@
+use Rattle.std.proofs.Common.{◌≡◌, ◌≤◌, ◌+◌, ◌*◌, ◌++◌, true, length, map}
+use Rattle.std.specs.Vec.{vec_len, vec_capacity}
+use Rattle.basic_toml_value.specs.Data.{items_of}
+use Rattle.basic_toml_value.specs.View.{view}
+use Rattle.basic_toml_value.proofs.Sizes.{data_size, items_size}
+use Rattle.basic_toml_plain.specs.Plain.{are_plain, are_simple, plain_data, element_data, rows_data}
+use Rattle.basic_toml_plain.specs.Values.{value_pair, row_pair}
+use Rattle.basic_toml_plain.proofs.values.+moves.Given as goal
+
+abbrev pub decreases-into_plain_value : goal.decreases-into_plain_value
+decreases-into_plain_value l = 3 * data_size (plain_data l.value) + 2
+
+abbrev pub decreases-into_plain_values : goal.decreases-into_plain_values
+decreases-into_plain_values l = 3 * items_size (items_of (map element_data l.elements.items)) + 1
+
+abbrev pub decreases-into_many : goal.decreases-into_many
+decreases-into_many l = 3 * items_size (items_of (map element_data l.elements.items))
+
+abbrev pub decreases-into_plain_table : goal.decreases-into_plain_table
+decreases-into_plain_table l = 3 * data_size (rows_data l.rows.items) + 1
+
+abbrev pub decreases-into_plain_entries : goal.decreases-into_plain_entries
+decreases-into_plain_entries l = 3 * data_size (rows_data l.rows.items)
+
+-- the values of the elements passed are moved, in order, and the others are left, which are plain
+abbrev pub invariant-into_many-loop-element : goal.invariant-into_many-loop-element
+invariant-into_many-loop-element l =
+    (map view l.moved.items ++ map element_data l.element-iterator ≡ map element_data l.initial.element-iterator)
+    × (vec_len l.moved + length l.element-iterator ≤ vec_capacity l.moved)
+    × (are_plain 0 l.element-iterator ≡ true)
+
+-- and there is room for them
+abbrev pub invariant-into_plain_values-loop-element : goal.invariant-into_plain_values-loop-element
+invariant-into_plain_values-loop-element l =
+    (map view l.moved.items ++ map element_data l.element-iterator.rest.items
+    ≡ map element_data l.initial.element-iterator.rest.items)
+    × (vec_len l.moved + length l.element-iterator.rest.items ≤ vec_capacity l.moved)
+    × (are_plain 0 l.element-iterator.rest.items ≡ true)
+
+-- the same of rows
+abbrev pub invariant-into_plain_entries-loop-row : goal.invariant-into_plain_entries-loop-row
+invariant-into_plain_entries-loop-row l =
+    (map value_pair l.moved.items ++ map row_pair l.row-iterator.rest.items
+    ≡ map row_pair l.initial.row-iterator.rest.items)
+    × (vec_len l.moved + length l.row-iterator.rest.items ≤ vec_capacity l.moved)
+    × (are_simple 0 l.row-iterator.rest.items ≡ true)

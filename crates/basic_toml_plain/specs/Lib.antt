@@ -1,0 +1,4 @@
+pub mod Plain
+pub mod PlainTables
+pub mod Tries
+pub mod Values

@@ -1,0 +1,37 @@
+-- The tables of an array of tables, each by the number of its section and its rows as they were read.
+use Rattle.std.specs.Prelude.{ℕ, ◌+◌, Bool, ◌&&◌, nat_eq, nat_le, List, [], ◌∷◌, ◌++◌, length, take, drop}
+use Rattle.std.specs.List.{list_all}
+use Rattle.basic_toml_read.specs.declared.section.Row.{Row}
+use Rattle.basic_toml_plain.specs.declared.section_rows.SectionRows.{SectionRows}
+use Rattle.basic_toml_plain.specs.Plain.{are_few_simple}
+
+-- the number of a section, and its rows
+abbrev pub SectionTable : Type 0
+SectionTable = ℕ × List Row
+
+-- those before the latest, and the latest
+abbrev pub SectionTables : Type 0
+SectionTables = List SectionTable × SectionTable
+
+abbrev pub tables_in : SectionTables → List SectionTable
+tables_in ts = ts.0 ++ ts.1 ∷ []
+
+-- each with few simple rows
+abbrev pub have_few_simple : SectionTables → Bool
+have_few_simple ts = list_all (λ t. are_few_simple 0 t.1) (tables_in ts)
+
+-- one more
+abbrev pub with_table : SectionTables → SectionTable → SectionTables
+with_table ts t = (tables_in ts, t)
+
+-- the tables that the first of some rows make, section by section
+abbrev pub parts : List Row → List SectionRows → List SectionTable
+parts rows [] = []
+parts rows (s ∷ ss) = (s.section, take s.count rows) ∷ parts (drop s.count rows) ss
+
+-- Sections follow one another from a number on, each with few simple rows, and no row is left.
+abbrev pub are_parts : ℕ → List Row → List SectionRows → Bool
+are_parts at rows [] = nat_eq (length rows) 0
+are_parts at rows (s ∷ ss) =
+    (nat_eq s.start at && (nat_le s.count (length rows) && are_few_simple 0 (take s.count rows)))
+    && are_parts (at + s.count) (drop s.count rows) ss
