@@ -29,7 +29,6 @@ use Rattle.basic_toml_plain.proofs.PlainValues.{plain_value, value_lower}
 use Rattle.basic_toml_plain.proofs.SimpleKeys.{first_is_simple, first_plain, others_plain, simple_from_plain}
 use Rattle.basic_toml_plain.proofs.WhatIsLeft.{nothing_left}
 use Rattle.basic_toml_grow.specs.declared.item.Item.{the_lemmas}
-use Rattle.basic_toml_grow.specs.declared.item.Item as items
 use Rattle.basic_toml_grow.specs.declared.item.Child.{Child}
 use Rattle.basic_toml_grow.specs.declared.item.Table.{Table, out-Table}
 use Rattle.basic_toml_grow.specs.Item.{item_trie, child_trie, table_trie}

@@ -1,7 +1,7 @@
 -- The trie that an item stands for: what is said of each table, and what it holds. Offsets play no part.
 use Rattle.std.specs.Prelude.{ℕ, suc, Bool, true, false, List, [], ◌∷◌, ◌++◌, Some, None, length, map, string_bytes}
 use Rattle.basic_toml_value.specs.Data.{Data, items_of}
-use Rattle.basic_toml_grammar.specs.Steps.{key, number}
+use Rattle.basic_toml_grammar.specs.Steps.{number}
 use Rattle.basic_toml_grammar.specs.Mentions.{finished}
 use Rattle.basic_toml_grammar.specs.Standing as standing
 use Rattle.basic_toml_grammar.specs.Trie.{Trie, trie, Tries, no_tries, by, nothing}

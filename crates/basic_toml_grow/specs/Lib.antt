@@ -9,3 +9,4 @@ pub mod RowStops
 pub mod Headers
 pub mod Ways
 pub mod Obstacles
+pub mod Takes

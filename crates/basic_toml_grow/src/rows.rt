@@ -20,6 +20,7 @@ ghost use Rattle.basic_toml_grow.specs.Rows.{EntersRow, EntersRows, Extends, Fin
 ghost use Rattle.basic_toml_grow.specs.Clash.{NamesObstacle};
 ghost use Rattle.basic_toml_grow.specs.Obstacles.{rows_obstacle, value_obstacle, elements_obstacle};
 ghost use Rattle.basic_toml_grow.specs.RowStops.{TellsRow, TellsExtended};
+ghost use Rattle.basic_toml_grow.specs.Takes.{TakesRows};
 
 use crate::clash::Clash;
 use crate::item::{Child, Item, Table};
@@ -178,11 +179,7 @@ pub(crate) fn take_rows<'de>(
     level: usize,
 ) -> Result<(), Clash>
     requires { level ≤ nesting_limit }
-    ensures entered { EntersRows (rows_view rows.old) level (table_trie table.old) (table_trie table.new) result }
-    ensures named { IfErr result (λ clash.
-        NamesObstacle (rows_obstacle level (rows_view rows.old) (table_trie table.old)) clash) }
-    ensures origins { IfOk result (λ _. table_within table.new
-        ≡ with_more (table_within table.old) (rows_origins section (rows_view rows.old))) }
+    ensures takes { TakesRows (rows_view rows.old) section level table.old table.new result }
     ensures taken { IfOk result (λ _. NoneLeft rows.new) }
 {
     if rows.rows.is_empty() && rows.parents.is_empty() {
@@ -209,11 +206,7 @@ fn take_other_rows<'de>(
     level: usize,
 ) -> Result<(), Clash>
     requires { level ≤ nesting_limit }
-    ensures entered { EntersRows (rows_view rows.entry) level (table_trie table.old) (table_trie table.new) result }
-    ensures named { IfErr result (λ clash.
-        NamesObstacle (rows_obstacle level (rows_view rows.entry) (table_trie table.old)) clash) }
-    ensures origins { IfOk result (λ _. table_within table.new
-        ≡ with_more (table_within table.old) (rows_origins section (rows_view rows.entry))) }
+    ensures { TakesRows (rows_view rows.entry) section level table.old table.new result }
 {
     take_any_rows(alloc, table, rows, section, level, LOOKS)
 }
@@ -232,11 +225,7 @@ fn take_any_rows<'de>(
     looks: usize,
 ) -> Result<(), Clash>
     requires { level ≤ nesting_limit }
-    ensures entered { EntersRows (rows_view rows.entry) level (table_trie table.old) (table_trie table.new) result }
-    ensures named { IfErr result (λ clash.
-        NamesObstacle (rows_obstacle level (rows_view rows.entry) (table_trie table.old)) clash) }
-    ensures origins { IfOk result (λ _. table_within table.new
-        ≡ with_more (table_within table.old) (rows_origins section (rows_view rows.entry))) }
+    ensures { TakesRows (rows_view rows.entry) section level table.old table.new result }
 {
     let Rows { parents, rows } = rows;
     if rows.len() >= MANY
@@ -275,12 +264,7 @@ fn take_many_rows<'de>(
     requires level { level ≤ nesting_limit }
     requires plain { all_plain level rows.items ≡ true }
     requires none { (out-Table table.old).entries ≡ [] }
-    ensures entered { EntersRows (rows_seen [] rows.entry.items) level (table_trie table.old) (table_trie table.new)
-        result }
-    ensures named { IfErr result (λ clash.
-        NamesObstacle (rows_obstacle level (rows_seen [] rows.entry.items) (table_trie table.old)) clash) }
-    ensures origins { IfOk result (λ _. table_within table.new
-        ≡ with_more (table_within table.old) (rows_origins section (rows_seen [] rows.entry.items))) }
+    ensures { TakesRows (rows_seen [] rows.entry.items) section level table.old table.new result }
 {
     let keys = RowKeys {
         rows: rows.as_slice(),
@@ -304,12 +288,7 @@ fn enter_rows<'de>(
     looks: usize,
 ) -> Result<(), Clash>
     requires { level ≤ nesting_limit }
-    ensures entered { EntersRows (rows_seen parents.entry.now rows.entry) level (table_trie table.old)
-        (table_trie table.new) result }
-    ensures named { IfErr result (λ clash.
-        NamesObstacle (rows_obstacle level (rows_seen parents.entry.now rows.entry) (table_trie table.old)) clash) }
-    ensures origins { IfOk result (λ _. table_within table.new
-        ≡ with_more (table_within table.old) (rows_origins section (rows_seen parents.entry.now rows.entry))) }
+    ensures { TakesRows (rows_seen parents.entry.now rows.entry) section level table.old table.new result }
 {
     let mut left = parents;
     for row in rows {
@@ -333,12 +312,7 @@ fn enter_value<'de>(
     looks: usize,
 ) -> Result<(), Clash>
     requires level { level ≤ nesting_limit }
-    ensures entered { EntersRows (one_row keys.entry.now row.entry) level (table_trie table.old)
-        (table_trie table.new) result }
-    ensures named { IfErr result (λ clash.
-        NamesObstacle (rows_obstacle level (one_row keys.entry.now row.entry) (table_trie table.old)) clash) }
-    ensures origins { let row = rows_origins section (one_row keys.entry.now row.entry) in
-        IfOk result (λ _. table_within table.new ≡ with_more (table_within table.old) row) }
+    ensures { TakesRows (one_row keys.entry.now row.entry) section level table.old table.new result }
 {
     if keys.len() > NESTING_LIMIT - level {
         return Err(Clash::Deep);

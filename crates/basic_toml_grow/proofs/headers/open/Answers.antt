@@ -12,16 +12,16 @@ pub returns-clause-entered : goal.returns-clause-entered
 returns-clause-entered c =
     open_named c.args.table.now c.args.number (rows_view c.args.rows.now) c.args.level
     (table_trie c.take_rows.new.table) c.take_rows.result c.if-table-2.false c.if-table.false (omega arith)
-    c.take_rows.ensures.entered
+    c.take_rows.ensures.takes.entered
 
 pub returns-clause-origins : goal.returns-clause-origins
 returns-clause-origins c =
     ok_on _ _ c.take_rows.result
     (λ x comes. opened c.args.table.now c.args.number (rows_origins c.args.number (rows_view c.args.rows.now))
-    c.take_rows.new.table comes) c.take_rows.ensures.origins
+    c.take_rows.new.table comes) c.take_rows.ensures.takes.origins
 
 pub returns-clause-marks : goal.returns-clause-marks
 returns-clause-marks c =
     ok_on _ _ c.take_rows.result
     (λ x comes. opened_marks c.args.table.now c.args.number (rows_origins c.args.number (rows_view c.args.rows.now))
-    c.take_rows.new.table comes) c.take_rows.ensures.origins
+    c.take_rows.new.table comes) c.take_rows.ensures.takes.origins

@@ -1,4 +1,3 @@
-use Rattle.std.specs.Prelude.{IfErr}
 use Rattle.std.proofs.Common.{refl, ◌≡◌, [], ◌∷◌, ◌++◌, ap, ◌∙◌, sym, subst, arith, Some, List, map, Bool}
 use Rattle.std.proofs.Common.{false, true, ◌+◌, ℕ, length, take, drop}
 use Rattle.std.proofs.lemmas.Result.{err_from_is_err_and}
@@ -46,6 +45,7 @@ use Rattle.basic_toml_grow.specs.declared.item.Item as items
 use Rattle.basic_toml_grow.proofs.PlainArrays.{plain_finished, table_finished}
 use Rattle.basic_toml_index.specs.Keys.{are_distinct}
 use Rattle.basic_toml_grow.specs.Simple.{entries_of, with_entries}
+use Rattle.basic_toml_grow.specs.Takes.{TakesRows}
 use Rattle.basic_toml_grow.proofs.SimpleRows.{all_lower}
 use Rattle.basic_toml_grow.proofs.RowsAfter.{FirstIn, first_in, all_entered, all_stopped, all_come}
 use Rattle.basic_toml_grow.proofs.rows.+finishing.Goals as goal
@@ -58,8 +58,8 @@ enter_rows-loop-row-init t c = record {
   come = refl;
 }
 
-pub enter_rows-returns-in_err-enter_value-clause-entered : goal.enter_rows-returns-in_err-enter_value-clause-entered
-enter_rows-returns-in_err-enter_value-clause-entered t c =
+pub enter_rows-returns-in_err-enter_value : goal.enter_rows-returns-in_err-enter_value
+enter_rows-returns-in_err-enter_value t c =
     let p = err_from_is_err_and c.from_residual.result c.from_residual.ensures.1 in
     let start : c.into_iter-row-iterator.result ≡ c.args.rows = c.into_iter-row-iterator.ensures.into_iter_gives in
     let whole = rows_seen c.args.parents.now c.into_iter-row-iterator.result in
@@ -72,20 +72,35 @@ enter_rows-returns-in_err-enter_value-clause-entered t c =
     let are_left = subst (λ (rows : Rows). AreLeft whole c.args.level before rows now) seen c.loop-row.invariant.left in
     let kept = subst (λ (ks : List keys.Key). AreKeptOut (one_row ks row) c.args.level now clash)
     c.own_parents-own.ensures c.in_err-enter_value.ensures.entered in
-    rw (p.1, p.2)
-    (subst (λ (rows : List Row). AreKeptOut (rows_seen c.args.parents.now rows) c.args.level before clash) start
-    (row_kept_out whole c.args.level before _ _ _ _ now are_left clash kept))
+    let named = subst (λ (ks : List keys.Key). NamesObstacle (rows_obstacle c.args.level (one_row ks row) now) clash)
+    c.own_parents-own.ensures c.in_err-enter_value.ensures.named in record {
+      entered = rw (p.1, p.2)
+          (subst (λ (rows : List Row). AreKeptOut (rows_seen c.args.parents.now rows) c.args.level before clash) start
+          (row_kept_out whole c.args.level before _ _ _ _ now are_left clash kept));
+      named = rw (p.1, p.2)
+          (subst (λ (rows : List Row). NamesObstacle (rows_obstacle c.args.level (rows_seen c.args.parents.now rows)
+          before) clash) start (row_stopped whole c.args.level before _ _ _ _ now are_left clash named));
+      origins = rw p.1 tt;
+    }
 
-pub enter_rows-returns-clause-entered : goal.enter_rows-returns-clause-entered
-enter_rows-returns-clause-entered t c =
+pub enter_rows-returns : goal.enter_rows-returns
+enter_rows-returns t c =
     let start : c.into_iter-row-iterator.result ≡ c.args.rows = c.into_iter-row-iterator.ensures.into_iter_gives in
     let whole = rows_seen c.args.parents.now c.into_iter-row-iterator.result in
     let before = table_trie c.args.table.now in
     let now = table_trie c.loop-row.table in
     let left = subst (λ (rows : List Row). AreLeft whole c.args.level before (rows_seen c.loop-row.left.now rows) now)
     c.in-None.ensures.steps.0 c.loop-row.invariant.left in
-    subst (λ (rows : List Row). AreIn (rows_seen c.args.parents.now rows) c.args.level before now) start
-    (none_left whole c.args.level before now (rows_are_keyed c.args.parents.now c.into_iter-row-iterator.result) left)
+    let w = table_within c.args.table.now in
+    let come = subst (λ (rows : List Row). OriginsLeft c.args.section whole w (rows_seen c.loop-row.left.now rows)
+    (table_within c.loop-row.table)) c.in-None.ensures.steps.0 c.loop-row.invariant.come in record {
+      entered = subst (λ (rows : List Row). AreIn (rows_seen c.args.parents.now rows) c.args.level before now) start
+          (none_left whole c.args.level before now (rows_are_keyed c.args.parents.now c.into_iter-row-iterator.result)
+          left);
+      named = tt;
+      origins = origins_done c.args.section whole w (table_within c.loop-row.table) come
+          ∙ ap (λ rows. with_more w (rows_origins c.args.section (rows_seen c.args.parents.now rows))) start;
+    }
 
 pub enter_rows-loop-row-preserved : goal.enter_rows-loop-row-preserved
 enter_rows-loop-row-preserved t c =
@@ -119,33 +134,59 @@ enter_rows-loop-row-preserved t c =
           (table_within c.enter_value.new.table) _ _ _ _ come more);
     }
 
-pub enter_value-returns-then-keys-level-clause-entered : goal.enter_value-returns-then-keys-level-clause-entered
-enter_value-returns-then-keys-level-clause-entered t c =
-    last_deep c.args.keys.now c.args.row c.args.level (table_trie c.args.table.now)
-    (omega arith)
+pub enter_value-returns-then-keys-level : goal.enter_value-returns-then-keys-level
+enter_value-returns-then-keys-level t c = record {
+  entered = last_deep c.args.keys.now c.args.row c.args.level (table_trie c.args.table.now) (omega arith);
+  named = deep_stopped c.args.keys.now c.args.row c.args.level (table_trie c.args.table.now) (omega arith);
+  origins = tt;
+}
 
-pub enter_value-returns-in-Err-clause-entered : goal.enter_value-returns-in-Err-clause-entered
-enter_value-returns-in-Err-clause-entered t c =
-    value_kept_out c.args.keys.now c.args.row c.args.level (table_trie c.args.table.now)
-    c.in-Err.clash c.in_ok-value_clash-in-Err.field-0 c.in_ok-value_clash-in-Err.ensures.same c.in-Err.ensures.finished
+pub enter_value-returns-in-Err : goal.enter_value-returns-in-Err
+enter_value-returns-in-Err t c = record {
+  entered = value_kept_out c.args.keys.now c.args.row c.args.level (table_trie c.args.table.now)
+      c.in-Err.clash c.in_ok-value_clash-in-Err.field-0 c.in_ok-value_clash-in-Err.ensures.same c.in-Err.ensures.finished;
+  named = value_stopped c.args.keys.now c.args.row c.args.level (table_trie c.args.table.now)
+      c.in-Err.clash c.in_ok-value_clash-in-Err.field-0 (omega arith)
+      (subst (λ (l : List ℕ). SaysHeld (map key_of c.args.keys.now ++ key_at (lined_of c.args.row).key.offset l ∷ [])
+      c.in-Err.clash c.in_ok-value_clash-in-Err.field-0)
+      (c.as_str.ensures.value ∙ sym (row_key c.args.row))
+      (c.in_ok-value_clash-in-Err.ensures.named (lined_of c.args.row).key.offset))
+      c.in-Err.ensures.named;
+  origins = tt;
+}
 
-pub enter_value-returns-in-Ok-enter_row-clause-entered : goal.enter_value-returns-in-Ok-enter_row-clause-entered
-enter_value-returns-in-Ok-enter_row-clause-entered t c =
-    value_put c.args.keys.now c.args.row c.args.level (table_trie c.args.table.now)
-    (header_texts c.args.keys.now ++ c.as_str-in-Ok.result.now ∷ [])
-    (ap (λ k. header_texts c.args.keys.now ++ k ∷ []) (c.as_str-in-Ok.ensures.value ∙ sym (row_key c.args.row)))
-    (child_trie c.in-Ok.child) (table_trie c.enter_row.new.table) c.in-Ok.ensures.finished (omega arith)
-    c.in-Ok-enter_row.ensures.entered
+pub enter_value-returns-in-Ok-enter_row : goal.enter_value-returns-in-Ok-enter_row
+enter_value-returns-in-Ok-enter_row t c = record {
+  entered = value_put c.args.keys.now c.args.row c.args.level (table_trie c.args.table.now)
+      (header_texts c.args.keys.now ++ c.as_str-in-Ok.result.now ∷ [])
+      (ap (λ k. header_texts c.args.keys.now ++ k ∷ []) (c.as_str-in-Ok.ensures.value ∙ sym (row_key c.args.row)))
+      (child_trie c.in-Ok.child) (table_trie c.enter_row.new.table) c.in-Ok.ensures.finished (omega arith)
+      c.in-Ok-enter_row.ensures.entered;
+  named = tt;
+  origins = c.in-Ok-enter_row.ensures.origins
+      ∙ ap (with_more (table_within c.args.table.now))
+      (row_comes c.args.section c.args.keys.now c.args.row c.as_str-in-Ok.result.now c.in-Ok.child
+      c.as_str-in-Ok.ensures.value c.in-Ok.ensures.origins c.in-Ok.ensures.dotted);
+}
 
-pub enter_value-returns-clause-entered : goal.enter_value-returns-clause-entered
-enter_value-returns-clause-entered t c =
-    value_met c.args.keys.now c.args.row c.args.level (table_trie c.args.table.now)
-    (header_texts c.args.keys.now ++ c.as_str-in-Ok.result.now ∷ [])
-    (ap (λ k. header_texts c.args.keys.now ++ k ∷ []) (c.as_str-in-Ok.ensures.value ∙ sym (row_key c.args.row)))
-    (child_trie c.in-Ok.child) (table_trie c.enter_row.new.table) c.in-Err-enter_row.met
-    c.in_ok-row_clash-in-Err-enter_row.field-0 c.in_ok-row_clash-in-Err-enter_row.ensures.same
-    c.in-Ok.ensures.finished
-    c.in-Err-enter_row.ensures.entered
+pub enter_value-returns : goal.enter_value-returns
+enter_value-returns t c = record {
+  entered = value_met c.args.keys.now c.args.row c.args.level (table_trie c.args.table.now)
+      (header_texts c.args.keys.now ++ c.as_str-in-Ok.result.now ∷ [])
+      (ap (λ k. header_texts c.args.keys.now ++ k ∷ []) (c.as_str-in-Ok.ensures.value ∙ sym (row_key c.args.row)))
+      (child_trie c.in-Ok.child) (table_trie c.enter_row.new.table) c.in-Err-enter_row.met
+      c.in_ok-row_clash-in-Err-enter_row.field-0 c.in_ok-row_clash-in-Err-enter_row.ensures.same
+      c.in-Ok.ensures.finished c.in-Err-enter_row.ensures.entered;
+  named = met_stopped c.args.keys.now c.args.row c.args.level (table_trie c.args.table.now)
+      (child_trie c.in-Ok.child) c.in-Err-enter_row.met c.in_ok-row_clash-in-Err-enter_row.field-0
+      c.as_str-in-Ok.result.now c.as_str-in-Err-enter_row.result.now c.args.row.offset
+      (c.as_str-in-Ok.ensures.value ∙ sym (row_key c.args.row))
+      (c.as_str-in-Err-enter_row.ensures.value ∙ sym (row_key c.args.row))
+      (row_offset c.args.row) (omega arith)
+      c.in_ok-row_clash-in-Err-enter_row.ensures.named c.in-Ok.ensures.finished
+      c.in-Err-enter_row.ensures.named;
+  origins = tt;
+}
 
 pub children_of-loop-element-init : goal.children_of-loop-element-init
 children_of-loop-element-init t c =
@@ -220,50 +261,6 @@ inline_child-returns-clause-finished t c =
     (are_keyed c.args.rows) (omega arith) (ap table_trie c.deref_mut.ensures.value ∙ c.in_ok-table.ensures)
     c.in_ok-take_any_rows.ensures.entered)
 
-pub enter_rows-returns-in_err-enter_value-clause-named : goal.enter_rows-returns-in_err-enter_value-clause-named
-enter_rows-returns-in_err-enter_value-clause-named t c =
-    let p = err_from_is_err_and c.from_residual.result c.from_residual.ensures.1 in
-    let start : c.into_iter-row-iterator.result ≡ c.args.rows = c.into_iter-row-iterator.ensures.into_iter_gives in
-    let whole = rows_seen c.args.parents.now c.into_iter-row-iterator.result in
-    let before = table_trie c.args.table.now in
-    let now = table_trie c.loop-row.table in
-    let row = c.in-Some.row in
-    let left = c.loop-row.left.now in
-    let clash = c.in_err-enter_value.field-0.0 in
-    let seen = ap (rows_seen left) c.in-Some.ensures.steps ∙ first_row left row c.next.new.self in
-    let are_left = subst (λ (rows : Rows). AreLeft whole c.args.level before rows now) seen c.loop-row.invariant.left in
-    let named = subst (λ (ks : List keys.Key). NamesObstacle (rows_obstacle c.args.level (one_row ks row) now) clash)
-    c.own_parents-own.ensures c.in_err-enter_value.ensures.named in
-    rw (p.1, p.2)
-    (subst (λ (rows : List Row). NamesObstacle (rows_obstacle c.args.level (rows_seen c.args.parents.now rows) before)
-    clash) start
-    (row_stopped whole c.args.level before _ _ _ _ now are_left clash named))
-
-pub enter_value-returns-then-keys-level-clause-named : goal.enter_value-returns-then-keys-level-clause-named
-enter_value-returns-then-keys-level-clause-named t c =
-    deep_stopped c.args.keys.now c.args.row c.args.level (table_trie c.args.table.now) (omega arith)
-
-pub enter_value-returns-in-Err-clause-named : goal.enter_value-returns-in-Err-clause-named
-enter_value-returns-in-Err-clause-named t c =
-    value_stopped c.args.keys.now c.args.row c.args.level (table_trie c.args.table.now)
-    c.in-Err.clash c.in_ok-value_clash-in-Err.field-0 (omega arith)
-    (subst (λ (l : List ℕ). SaysHeld (map key_of c.args.keys.now ++ key_at (lined_of c.args.row).key.offset l ∷ [])
-    c.in-Err.clash c.in_ok-value_clash-in-Err.field-0)
-    (c.as_str.ensures.value ∙ sym (row_key c.args.row))
-    (c.in_ok-value_clash-in-Err.ensures.named (lined_of c.args.row).key.offset))
-    c.in-Err.ensures.named
-
-pub enter_value-returns-clause-named : goal.enter_value-returns-clause-named
-enter_value-returns-clause-named t c =
-    met_stopped c.args.keys.now c.args.row c.args.level (table_trie c.args.table.now)
-    (child_trie c.in-Ok.child) c.in-Err-enter_row.met c.in_ok-row_clash-in-Err-enter_row.field-0
-    c.as_str-in-Ok.result.now c.as_str-in-Err-enter_row.result.now c.args.row.offset
-    (c.as_str-in-Ok.ensures.value ∙ sym (row_key c.args.row))
-    (c.as_str-in-Err-enter_row.ensures.value ∙ sym (row_key c.args.row))
-    (row_offset c.args.row) (omega arith)
-    c.in_ok-row_clash-in-Err-enter_row.ensures.named c.in-Ok.ensures.finished
-    c.in-Err-enter_row.ensures.named
-
 pub inline_child-returns-in_err-take_any_rows-clause-named : goal.inline_child-returns-in_err-take_any_rows-clause-named
 inline_child-returns-in_err-take_any_rows-clause-named t c =
     let p = err_from_is_err_and c.from_residual-in_err-take_any_rows.result c.from_residual-in_err-take_any_rows.ensures.1 in
@@ -285,23 +282,6 @@ children_of-returns-in_err-child-clause-named t c =
     rw (p.1, p.2) (subst (λ (es : List Element). NamesObstacle (elements_obstacle c.args.level (elements_view es)) clash)
     start (element_stopped whole c.args.level ts c.in-Some.element c.next.new.self clash left
     c.in_err-child.ensures.named))
-
-pub enter_rows-returns-clause-origins : goal.enter_rows-returns-clause-origins
-enter_rows-returns-clause-origins t c =
-    let start : c.into_iter-row-iterator.result ≡ c.args.rows = c.into_iter-row-iterator.ensures.into_iter_gives in
-    let whole = rows_seen c.args.parents.now c.into_iter-row-iterator.result in
-    let w = table_within c.args.table.now in
-    let come = subst (λ (rows : List Row). OriginsLeft c.args.section whole w (rows_seen c.loop-row.left.now rows)
-    (table_within c.loop-row.table)) c.in-None.ensures.steps.0 c.loop-row.invariant.come in
-    origins_done c.args.section whole w (table_within c.loop-row.table) come
-    ∙ ap (λ rows. with_more w (rows_origins c.args.section (rows_seen c.args.parents.now rows))) start
-
-pub enter_value-returns-in-Ok-enter_row-clause-origins : goal.enter_value-returns-in-Ok-enter_row-clause-origins
-enter_value-returns-in-Ok-enter_row-clause-origins t c =
-    c.in-Ok-enter_row.ensures.origins
-    ∙ ap (with_more (table_within c.args.table.now))
-    (row_comes c.args.section c.args.keys.now c.args.row c.as_str-in-Ok.result.now c.in-Ok.child
-    c.as_str-in-Ok.ensures.value c.in-Ok.ensures.origins c.in-Ok.ensures.dotted)
 
 pub children_of-returns-clause-origins : goal.children_of-returns-clause-origins
 children_of-returns-clause-origins t c =
@@ -372,14 +352,13 @@ pub take_many_rows-with_first_rows-requires-clause-plain : goal.take_many_rows-w
 take_many_rows-with_first_rows-requires-clause-plain t c =
     ap (are_all_plain 0) c.drain-rows.ensures ∙ all_lower c.args.level c.args.rows.items c.requires.plain
 
-pub take_any_rows-returns-then-are_all_plain-clause-named : goal.take_any_rows-returns-then-are_all_plain-clause-named
-take_any_rows-returns-then-are_all_plain-clause-named t c =
+pub take_any_rows-returns-then-are_all_plain : goal.take_any_rows-returns-then-are_all_plain
+take_any_rows-returns-then-are_all_plain t c =
     let own = tables.out-Rows c.args.rows in
     let none : own.parents.items ≡ [] =
     nothing_left own.parents.items (grind (arith, c.is_empty.ensures, c.if-is_empty.true, own.parents.ok.0)) in
-    subst (λ (rows : Rows). IfErr c.take_many_rows.result
-    (λ clash. NamesObstacle (rows_obstacle c.args.level rows (table_trie c.args.table.now)) clash))
-    (sym (no_parents_seen c.args.rows none)) c.take_many_rows.ensures.named
+    subst (λ (rows : Rows). TakesRows rows c.args.section c.args.level c.args.table.now c.take_many_rows.new.table
+    c.take_many_rows.result) (sym (no_parents_seen c.args.rows none)) c.take_many_rows.ensures
 
 -- many plain rows, the first of them taken at once
 many_first : (t : ℕ) (c : goal.take_many_rows-After-enter_rows t)
@@ -394,15 +373,11 @@ many_first t c =
     ∙ ap (λ rows. with_entries c.args.table.now (entries_of c.args.section (take count rows))) c.drain-rows.ensures)
     (c.in_ok-with_first_rows.ensures.left ∙ ap (drop count) c.drain-rows.ensures)
 
-pub take_many_rows-returns-clause-entered : goal.take_many_rows-returns-clause-entered
-take_many_rows-returns-clause-entered t c =
-    all_entered (many_first t c) (table_trie c.enter_rows.new.table) c.enter_rows.result c.enter_rows.ensures.entered
-
-pub take_many_rows-returns-clause-named : goal.take_many_rows-returns-clause-named
-take_many_rows-returns-clause-named t c =
-    all_stopped (many_first t c) c.enter_rows.result c.enter_rows.ensures.named
-
-pub take_many_rows-returns-clause-origins : goal.take_many_rows-returns-clause-origins
-take_many_rows-returns-clause-origins t c =
-    ok_on _ _ c.enter_rows.result (λ x come. all_come (many_first t c) c.enter_rows.new.table come)
-    c.enter_rows.ensures.origins
+pub take_many_rows-returns : goal.take_many_rows-returns
+take_many_rows-returns t c = record {
+  entered = all_entered (many_first t c) (table_trie c.enter_rows.new.table) c.enter_rows.result
+      c.enter_rows.ensures.entered;
+  named = all_stopped (many_first t c) c.enter_rows.result c.enter_rows.ensures.named;
+  origins = ok_on _ _ c.enter_rows.result (λ x come. all_come (many_first t c) c.enter_rows.new.table come)
+      c.enter_rows.ensures.origins;
+}

@@ -16,15 +16,15 @@ use Rattle.basic_toml_grow.specs.declared.item.Table.{Table, out-Table}
 use Rattle.basic_toml_grow.proofs.SimpleRows.{no_entries, all_lower, rows_in, rows_come}
 use Rattle.basic_toml_grow.proofs.rows.take_rows.Goals as goal
 
-pub returns-then-is_empty-2-clause-entered : goal.returns-then-is_empty-2-clause-entered
-returns-then-is_empty-2-clause-entered c =
-    none_put (rows_view c.args.rows.now) c.args.level (table_trie c.args.table.now)
-    (none_seen c.args.rows.now (grind (
-      arith,
-      c.is_empty.ensures,
-      c.if-is_empty.true,
-      (tables.out-Rows c.args.rows.now).rows.ok.0,
-    )))
+pub returns-then-is_empty-2-clause-takes : goal.returns-then-is_empty-2-clause-takes
+returns-then-is_empty-2-clause-takes c =
+    let w = table_within c.args.table.now in
+    let none = none_seen c.args.rows.now
+    (grind (arith, c.is_empty.ensures, c.if-is_empty.true, (tables.out-Rows c.args.rows.now).rows.ok.0)) in record {
+      entered = none_put (rows_view c.args.rows.now) c.args.level (table_trie c.args.table.now) none;
+      named = tt;
+      origins = sym (ap (λ rows. with_more w (rows_origins c.args.section rows)) none ∙ more_none w);
+    }
 
 pub returns-then-is_empty-2-clause-taken : goal.returns-then-is_empty-2-clause-taken
 returns-then-is_empty-2-clause-taken c =
@@ -37,14 +37,6 @@ returns-then-is_empty-2-clause-taken c =
       )),
       nothing_left own.rows.items (grind (arith, c.is_empty.ensures, c.if-is_empty.true, own.rows.ok.0)),
     )
-
--- where what is put into the table comes from
-pub returns-then-is_empty-2-clause-origins : goal.returns-then-is_empty-2-clause-origins
-returns-then-is_empty-2-clause-origins c =
-    let w = table_within c.args.table.now in
-    sym (ap (λ rows. with_more w (rows_origins c.args.section rows)) (none_seen c.args.rows.now
-    (grind (arith, c.is_empty.ensures, c.if-is_empty.true, (tables.out-Rows c.args.rows.now).rows.ok.0)))
-    ∙ more_none w)
 
 -- plain rows are so at the lowest level
 pub with_rows-requires-clause-plain : goal.with_rows-requires-clause-plain
@@ -82,24 +74,21 @@ taken_at_once c =
     (few_seen c.args.level items c.as_slice.result.now c.are_few_simple.result c.as_slice.ensures.value
     c.are_few_simple.ensures c.if-are_few_simple.true)
 
-pub returns-then-are_few_simple-clause-entered : goal.returns-then-are_few_simple-clause-entered
-returns-then-are_few_simple-clause-entered c =
+pub returns-then-are_few_simple-clause-takes : goal.returns-then-are_few_simple-clause-takes
+returns-then-are_few_simple-clause-takes c =
     let table = c.args.table.now in
     let items = (tables.out-Rows c.args.rows.now).rows.items in
-    subst (λ (rows : Rows). AreIn rows c.args.level (table_trie table) (table_trie c.with_rows.new.table))
-    (sym (no_parents_seen c.args.rows.now (without_parents c)))
-    (subst (λ (t : Table). AreIn (rows_seen [] items) c.args.level (table_trie table) (table_trie t))
-    (sym c.in_ok-with_rows.ensures.after)
-    (rows_in c.args.section c.args.level (omega arith) table (without_entries c) items (taken_at_once c)))
-
-pub returns-then-are_few_simple-clause-origins : goal.returns-then-are_few_simple-clause-origins
-returns-then-are_few_simple-clause-origins c =
-    let table = c.args.table.now in
-    let items = (tables.out-Rows c.args.rows.now).rows.items in
-    ap table_within c.in_ok-with_rows.ensures.after
-    ∙ rows_come c.args.section c.args.level (omega arith) table (without_entries c) items (taken_at_once c)
-    ∙ ap (λ rows. with_more (table_within table) (rows_origins c.args.section rows))
-    (sym (no_parents_seen c.args.rows.now (without_parents c)))
+    let seen = no_parents_seen c.args.rows.now (without_parents c) in record {
+      entered = subst (λ (rows : Rows). AreIn rows c.args.level (table_trie table) (table_trie c.with_rows.new.table))
+          (sym seen)
+          (subst (λ (t : Table). AreIn (rows_seen [] items) c.args.level (table_trie table) (table_trie t))
+          (sym c.in_ok-with_rows.ensures.after)
+          (rows_in c.args.section c.args.level (omega arith) table (without_entries c) items (taken_at_once c)));
+      named = tt;
+      origins = ap table_within c.in_ok-with_rows.ensures.after
+          ∙ rows_come c.args.section c.args.level (omega arith) table (without_entries c) items (taken_at_once c)
+          ∙ ap (λ rows. with_more (table_within table) (rows_origins c.args.section rows)) (sym seen);
+    }
 
 pub returns-then-are_few_simple-clause-taken : goal.returns-then-are_few_simple-clause-taken
 returns-then-are_few_simple-clause-taken c =
