@@ -11,6 +11,7 @@ pub mod HeadersEntered
 pub mod HeadersInATrie
 pub mod HeadersStopped
 pub mod HeadersLead
+pub mod HeadersGoOn
 pub mod ObstaclesPassOn
 pub mod NoObstacles
 pub mod ObstaclesAreStops
@@ -31,6 +32,7 @@ pub mod SimpleRows
 pub mod SectionTables
 pub mod SectionsEntered
 pub mod SectionsAdded
+pub mod RowsKept
 pub mod SectionsUnfolded
 pub mod RowsAfter
 pub mod LatestInATrie

@@ -1,19 +1,20 @@
 //! Puts a section into the tree: the way of its header, and the table that the header names.
 
-ghost use Rattle.std.specs.Prelude.{◌≡◌, ◌≤◌, ◌+◌, ℕ, true, false, [], ◌∷◌, IfOk, IfErr};
+ghost use Rattle.std.specs.Prelude.{◌≡◌, ◌≤◌, ◌+◌, true, false, [], ◌∷◌, IfOk, IfErr};
 ghost use Rattle.basic_toml_value.specs.Nesting.{nesting_limit};
 ghost use Rattle.basic_toml_grammar.specs.Sections.{Rows as spec_rows};
 ghost use Rattle.basic_toml_grammar.specs.Trie.{put_element};
 ghost use Rattle.basic_toml_read.specs.SectionView.{NoneLeft, header_texts, rows_view};
 ghost use Rattle.basic_toml_grow.specs.Clash.{NamesObstacle};
-ghost use Rattle.basic_toml_grow.specs.Item.{table_trie, child_trie, item_trie, trie_before, is_section};
-ghost use Rattle.basic_toml_grow.specs.Origins.{item_origins, child_origins, table_within, or_else, origins_before, rows_origins};
-ghost use Rattle.basic_toml_grow.specs.Ways.{way, way_by, way_at, GrowsAlong, MarksWay, MarksTable};
-ghost use Rattle.basic_toml_grow.specs.Headers.{EntersHeader, EntersItem, IsKeptOut, IsNew, HasOneMore, is_last};
-ghost use Rattle.basic_toml_grow.specs.Headers.{entered_by, steps_by, entered_at, steps_at, obstacle_by, obstacle_at, table_clash};
+ghost use Rattle.basic_toml_grow.specs.Item.{table_trie, item_trie, is_section};
+ghost use Rattle.basic_toml_grow.specs.Origins.{table_within, or_else, rows_origins};
+ghost use Rattle.basic_toml_grow.specs.Ways.{way, GrowsAlong, MarksTable};
+ghost use Rattle.basic_toml_grow.specs.Headers.{EntersHeader, IsKeptOut, IsNew, HasOneMore, is_last};
+ghost use Rattle.basic_toml_grow.specs.Headers.{table_clash};
 ghost use Rattle.basic_toml_grow.specs.declared.item.Child.{out-Child};
 ghost use Rattle.basic_toml_grow.specs.declared.item.Table.{out-Table};
 ghost use Rattle.basic_toml_grow.specs.Obstacles.{keys_obstacle, table_obstacle, element_obstacle};
+ghost use Rattle.basic_toml_grow.specs.Takes.{TakesHeader, TakesHeaderAtKey, TakesHeaderInItem};
 
 use crate::clash::Clash;
 use crate::item::{Child, Item, Table};
@@ -111,16 +112,8 @@ fn enter_header<'de>(
     level: usize,
 ) -> Result<(), Clash>
     requires { level ≤ nesting_limit + 2 }
-    ensures entered { EntersHeader is_array (rows_view rows.old) (header_texts keys.now) level
-        (table_trie table.old) (table_trie table.new) result }
-    ensures named { let keys = header_texts keys.now in
-        let met = keys_obstacle is_array (rows_view rows.old) keys level (table_trie table.old) in
-        IfErr result (λ clash. NamesObstacle met clash) }
-    ensures origins { let new = rows_origins number (rows_view rows.old) in
-        IfOk result (λ _. GrowsAlong (way is_array (header_texts keys.now) (table_trie table.old)) new
-        (table_within table.old).below (table_within table.new).below) }
-    ensures marks { IfOk result (λ _. MarksTable number (way is_array (header_texts keys.now) (table_trie table.old))
-        (table_within table.new)) }
+    ensures takes { TakesHeader is_array (rows_view rows.old) (header_texts keys.now) level number
+        table.old table.new result }
     ensures taken { IfOk result (λ _. NoneLeft rows.new) }
 {
     match keys.split_first() {
@@ -150,17 +143,8 @@ fn enter_last<'de>(
     level: usize,
 ) -> Result<(), Clash>
     requires { level ≤ nesting_limit + 2 }
-    ensures entered { EntersHeader false (rows_view rows.old) (header_texts (key.now ∷ [])) level
-        (table_trie table.old) (table_trie table.new) result }
-    ensures named { let keys = header_texts (key.now ∷ []) in
-        let met = keys_obstacle false (rows_view rows.old) keys level (table_trie table.old) in
-        IfErr result (λ clash. NamesObstacle met clash) }
-    ensures origins { let new = rows_origins number (rows_view rows.old) in
-        let keys = header_texts (key.now ∷ []) in
-        IfOk result (λ _. GrowsAlong (way false keys (table_trie table.old)) new
-        (table_within table.old).below (table_within table.new).below) }
-    ensures marks { let keys = header_texts (key.now ∷ []) in
-        IfOk result (λ _. MarksTable number (way false keys (table_trie table.old)) (table_within table.new)) }
+    ensures takes { TakesHeader false (rows_view rows.old) (header_texts (key.now ∷ [])) level number
+        table.old table.new result }
     ensures taken { IfOk result (λ _. NoneLeft rows.new) }
 {
     if level >= NESTING_LIMIT
@@ -198,17 +182,8 @@ fn enter_element<'de>(
     level: usize,
 ) -> Result<(), Clash>
     requires { level ≤ nesting_limit + 2 }
-    ensures entered { EntersHeader true (rows_view rows.old) (header_texts (key.now ∷ [])) level
-        (table_trie table.old) (table_trie table.new) result }
-    ensures named { let keys = header_texts (key.now ∷ []) in
-        let met = keys_obstacle true (rows_view rows.old) keys level (table_trie table.old) in
-        IfErr result (λ clash. NamesObstacle met clash) }
-    ensures origins { let new = rows_origins number (rows_view rows.old) in
-        let keys = header_texts (key.now ∷ []) in
-        IfOk result (λ _. GrowsAlong (way true keys (table_trie table.old)) new
-        (table_within table.old).below (table_within table.new).below) }
-    ensures marks { let keys = header_texts (key.now ∷ []) in
-        IfOk result (λ _. MarksTable number (way true keys (table_trie table.old)) (table_within table.new)) }
+    ensures takes { TakesHeader true (rows_view rows.old) (header_texts (key.now ∷ [])) level number
+        table.old table.new result }
     ensures taken { IfOk result (λ _. NoneLeft rows.new) }
 {
     if level + 2 > NESTING_LIMIT
@@ -249,17 +224,8 @@ fn enter_below<'de>(
     level: usize,
 ) -> Result<(), Clash>
     requires { level ≤ nesting_limit + 2 }
-    ensures entered { EntersHeader is_array (rows_view rows.old) (header_texts (key.now ∷ rest.now)) level
-        (table_trie table.old) (table_trie table.new) result }
-    ensures named { let keys = header_texts (key.now ∷ rest.now) in
-        let met = keys_obstacle is_array (rows_view rows.old) keys level (table_trie table.old) in
-        IfErr result (λ clash. NamesObstacle met clash) }
-    ensures origins { let new = rows_origins number (rows_view rows.old) in
-        let keys = header_texts (key.now ∷ rest.now) in
-        IfOk result (λ _. GrowsAlong (way is_array keys (table_trie table.old)) new
-        (table_within table.old).below (table_within table.new).below) }
-    ensures marks { let keys = header_texts (key.now ∷ rest.now) in
-        IfOk result (λ _. MarksTable number (way is_array keys (table_trie table.old)) (table_within table.new)) }
+    ensures takes { TakesHeader is_array (rows_view rows.old) (header_texts (key.now ∷ rest.now)) level number
+        table.old table.new result }
     ensures taken { IfOk result (λ _. NoneLeft rows.new) }
 {
     if level > NESTING_LIMIT {
@@ -300,20 +266,8 @@ fn enter_at<'de>(
 ) -> Result<(), Clash>
     requires level { level ≤ nesting_limit }
     requires new { is_new ≡ true → IsNew (is_last is_array (header_texts rest.now)) (out-Child there.old).item }
-    ensures entered { let rows = rows_view rows.old in
-        let keys = header_texts rest.now in
-        let before = trie_before is_new (child_trie there.old) in
-        EntersItem (entered_at is_array rows keys before) rows (level + steps_at is_array keys before)
-        (child_trie there.new) result }
-    ensures named { let before = trie_before is_new (child_trie there.old) in
-        let met = obstacle_at is_array (rows_view rows.old) (header_texts rest.now) (level + 1) before in
-        IfErr result (λ clash. NamesObstacle met clash) }
-    ensures origins { let new = rows_origins number (rows_view rows.old) in
-        let before = trie_before is_new (child_trie there.old) in
-        IfOk result (λ _. GrowsAlong (way_at is_array (header_texts rest.now) before) new
-        (origins_before is_new (child_origins there.old)) (child_origins there.new)) }
-    ensures marks { let before = trie_before is_new (child_trie there.old) in
-        IfOk result (λ _. MarksWay number (way_at is_array (header_texts rest.now) before) (child_origins there.new)) }
+    ensures takes { TakesHeaderAtKey is_array (rows_view rows.old) (header_texts rest.now) level number is_new
+        there.old there.new result }
     ensures taken { IfOk result (λ _. NoneLeft rows.new) }
 {
     there.unfold(alloc)?;
@@ -377,20 +331,8 @@ fn enter_item<'de>(
 ) -> Result<(), Clash>
     requires level { level ≤ nesting_limit }
     requires unfolded { is_section there.old ≡ false }
-    ensures entered { let rows = rows_view rows.old in
-        let keys = header_texts rest.now in
-        EntersItem (entered_by is_array rows keys (item_trie there.old)) rows
-        (level + steps_by is_array keys (item_trie there.old)) (item_trie there.new) result }
-    ensures named { let met = obstacle_by is_array (rows_view rows.old) (header_texts rest.now) (level + 1)
-        (item_trie there.old) in
-        IfErr result (λ clash. NamesObstacle met clash) }
-    ensures origins { let new = rows_origins number (rows_view rows.old) in
-        IfOk result (λ _. (start section : ℕ) →
-        GrowsAlong (way_by is_array (header_texts rest.now) (item_trie there.old)) new
-        (item_origins there.old start section) (item_origins there.new start section)) }
-    ensures marks { IfOk result (λ _. (start section : ℕ) →
-        MarksWay number (way_by is_array (header_texts rest.now) (item_trie there.old))
-        (item_origins there.new start section)) }
+    ensures takes { TakesHeaderInItem is_array (rows_view rows.old) (header_texts rest.now) level number
+        there.old there.new result }
     ensures taken { IfOk result (λ _. NoneLeft rows.new) }
 {
     match there {
