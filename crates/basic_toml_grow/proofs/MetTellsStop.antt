@@ -317,7 +317,3 @@ section_stands c rows is = λ before k d.
     subst (λ (t : Trie). StopsAtKey before (k ∷ []) 1 (try_here (valued d) (last_stop before k) t))
     (sym (child_item_trie c ∙ ap item_trie is ∙ section_item_trie rows))
     (stands_last before k d (standings.table false true false) None (by_keys (map row_trie rows)) refl)
-
-pub no_keys : (ks : List code_keys.Key) → length ks ≡ 0 → map key_of ks ≡ []
-no_keys [] none = refl
-no_keys (k ∷ ks) none = absurd (omega arith)

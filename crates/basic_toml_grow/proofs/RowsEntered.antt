@@ -1,6 +1,6 @@
 -- A row put into a table: its first key, and what that key leads to.
 use Rattle.std.proofs.Common.{◌≡◌, ℕ, true, List, [], ◌∷◌, ◌++◌, ap, ◌∙◌, refl, sym, Option, Some, None, Result, Ok, Err}
-use Rattle.std.proofs.Common.{rules, length, arith, subst}
+use Rattle.std.proofs.Common.{rules, subst}
 use Rattle.std.specs.Prelude.{IfOk, IfErr}
 use Rattle.std.specs.List.{slice_get}
 use Rattle.basic_toml_value.specs.Data.{Data}
@@ -11,8 +11,7 @@ use Rattle.basic_toml_grammar.specs.Entering.{and_then}
 use Rattle.basic_toml_grammar.specs.Trie.{Trie, trie, nothing, standing, with_tries, mark_here, among, at_step}
 use Rattle.basic_toml_grammar.specs.Trie.{put_row}
 use Rattle.basic_toml_read.specs.KeyText.{key_text_bytes}
-use Rattle.basic_toml_read.specs.SectionView.{header_texts, lined_of}
-use Rattle.basic_toml_read.specs.declared.section.Key as keys
+use Rattle.basic_toml_read.specs.SectionView.{lined_of}
 use Rattle.basic_toml_read.specs.declared.section.Raw.{the_lemmas}
 use Rattle.basic_toml_read.specs.declared.section.Row.{Row, out-Row}
 use Rattle.basic_toml_plain.specs.Tries.{by_keys}
@@ -58,11 +57,6 @@ within changed whole inner outer (Err mets.Row) none some entered = none entered
 -- the key of a row
 pub row_key : (row : Row) → (lined_of row).key.text ≡ key_text_bytes (out-Row row).key
 row_key row = search (rules, the_lemmas)
-
--- where no keys are
-pub no_texts : (ks : List keys.Key) → length ks ≡ 0 → header_texts ks ≡ []
-no_texts [] none = refl
-no_texts (k ∷ ks) none = absurd (omega arith)
 
 -- a row with a key more before its last one
 pub row_on : (k : List ℕ) (ks : KeyTexts) (last : List ℕ) (d : Data) (t : Trie)

@@ -1,8 +1,13 @@
 -- What a section does to a table, to what stands at a key and to an item: what is entered or what is met first, where
 -- what its rows bring comes from, and what its header marks.
-use Rattle.std.specs.Prelude.{◌≡◌, ℕ, ◌+◌, Bool, Result, IfErr, IfOk}
+use Rattle.std.specs.Prelude.{◌≡◌, ℕ, ◌+◌, Bool, List, [], ◌∷◌, ◌++◌, map, Result, IfErr, IfOk}
+use Rattle.basic_toml_value.specs.Data.{Data}
 use Rattle.basic_toml_grammar.specs.Sections.{KeyTexts, Rows}
+use Rattle.basic_toml_read.specs.declared.section.Key as keys
+use Rattle.basic_toml_read.specs.SectionView.{header_texts, key_of}
+use Rattle.basic_toml_plain.specs.Tries.{leaf}
 use Rattle.basic_toml_grow.specs.declared.clash.Clash.{Clash}
+use Rattle.basic_toml_grow.specs.declared.met.Met.{Met}
 use Rattle.basic_toml_grow.specs.declared.item.Item.{Item}
 use Rattle.basic_toml_grow.specs.declared.item.Child.{Child}
 use Rattle.basic_toml_grow.specs.declared.item.Table.{Table}
@@ -12,8 +17,9 @@ use Rattle.basic_toml_grow.specs.Headers.{EntersHeader, EntersItem, entered_at, 
 use Rattle.basic_toml_grow.specs.Headers.{obstacle_at, obstacle_by}
 use Rattle.basic_toml_grow.specs.Obstacles.{keys_obstacle, rows_obstacle}
 use Rattle.basic_toml_grow.specs.Origins.{child_origins, item_origins, origins_before, rows_origins, table_within}
-use Rattle.basic_toml_grow.specs.Origins.{with_more}
-use Rattle.basic_toml_grow.specs.Rows.{EntersRows}
+use Rattle.basic_toml_grow.specs.Origins.{dotted_of, entry, or_else, row_origins, with_more}
+use Rattle.basic_toml_grow.specs.Rows.{EntersRow, EntersRows, Extends}
+use Rattle.basic_toml_grow.specs.RowStops.{TellsRow, TellsExtended}
 use Rattle.basic_toml_grow.specs.Ways.{GrowsAlong, MarksTable, MarksWay, way, way_at, way_by}
 
 -- rows that go into a table of a level, of the section with a number
@@ -21,6 +27,26 @@ pub record TakesRows (rows : Rows) (section level : ℕ) (old new : Table) (r : 
   pub entered : EntersRows rows level (table_trie old) (table_trie new) r
   pub named : IfErr r (λ clash. NamesObstacle (rows_obstacle level rows (table_trie old)) clash)
   pub origins : IfOk r (λ _. table_within new ≡ with_more (table_within old) (rows_origins section rows))
+
+-- a row with these keys before its last one, whose value is kept as a child
+pub record TakesRow (parents : List keys.Key) (last : List ℕ) (child : Child) (old new : Table)
+    (r : Result (Unit {0}) Met) : Type 0 where
+  pub entered : (d : Data) → child_trie child ≡ leaf d
+      → EntersRow (header_texts parents ++ last ∷ []) d (table_trie old) (table_trie new) r
+  pub named : IfErr r (λ met. (d : Data) → child_trie child ≡ leaf d
+      → TellsRow (map key_of parents) last d (table_trie old) met)
+  pub origins : IfOk r (λ _. table_within new ≡ with_more (table_within old)
+      (row_origins (header_texts parents ++ last ∷ []) (dotted_of child) (child_origins child)))
+
+-- the rest of such a row, put into the table at a key that a period follows
+pub record ExtendsBy (parents : List keys.Key) (last : List ℕ) (child old new : Child) (r : Result (Unit {0}) Met)
+    : Type 0 where
+  pub entered : (d : Data) → child_trie child ≡ leaf d
+      → Extends (header_texts parents ++ last ∷ []) d (child_trie old) (child_trie new) r
+  pub named : IfErr r (λ met. (d : Data) → child_trie child ≡ leaf d
+      → TellsExtended (map key_of parents) last d (child_trie old) met)
+  pub origins : IfOk r (λ _. child_origins new ≡ or_else (child_origins old) (entry (dotted_of child)
+      (row_origins (header_texts parents ++ last ∷ []) (dotted_of child) (child_origins child))))
 
 -- a header that goes on from a table of a level by the keys that are left
 pub record TakesHeader (a : Bool) (rows : Rows) (keys : KeyTexts) (level n : ℕ) (old new : Table)

@@ -1,26 +1,19 @@
 //! Puts the rows of a section into its table: their values, and the tables that their dotted keys lead through.
 
-ghost use Rattle.std.specs.Prelude.{◌≡◌, ◌≤◌, ◌<◌, length, [], ◌∷◌, ◌++◌, None, true, false, map};
+ghost use Rattle.std.specs.Prelude.{◌≡◌, ◌≤◌, ◌<◌, [], ◌∷◌, None, true, false, map};
 ghost use Rattle.std.specs.Prelude.{IfOk, IfErr};
 ghost use Rattle.basic_toml_value.specs.Nesting.{nesting_limit};
-ghost use Rattle.basic_toml_value.specs.Data.{Data};
 ghost use Rattle.basic_toml_grammar.specs.Sections.{Raw as spec_raw};
-ghost use Rattle.basic_toml_grammar.specs.Marks.{valued};
-ghost use Rattle.basic_toml_grammar.specs.Steps.{key as key_step};
-ghost use Rattle.basic_toml_grammar.specs.Trie.{mark_here};
-ghost use Rattle.basic_toml_read.specs.SectionView.{raw_of, key_of, header_texts, rows_seen, rows_view, elements_view, NoneLeft};
-ghost use Rattle.basic_toml_plain.specs.Tries.{leaf};
+ghost use Rattle.basic_toml_read.specs.SectionView.{raw_of, rows_seen, rows_view, elements_view, NoneLeft};
 ghost use Rattle.basic_toml_plain.specs.Plain.{are_all_plain as all_plain};
 ghost use Rattle.basic_toml_grow.specs.declared.item.Table.{out-Table};
-ghost use Rattle.basic_toml_grow.specs.Item.{child_trie, table_trie};
-ghost use Rattle.basic_toml_grow.specs.Origins.{child_origins, table_within, with_more, or_else, entry, beyond};
-ghost use Rattle.basic_toml_grow.specs.Origins.{row_origins, rows_origins, value_origins, elements_origins};
+ghost use Rattle.basic_toml_grow.specs.Origins.{child_origins, entry};
+ghost use Rattle.basic_toml_grow.specs.Origins.{value_origins, elements_origins};
 ghost use Rattle.basic_toml_grow.specs.Origins.{dotted_of, table_origin};
-ghost use Rattle.basic_toml_grow.specs.Rows.{EntersRow, EntersRows, Extends, Finishes, FinishesAll, one_row};
+ghost use Rattle.basic_toml_grow.specs.Rows.{Finishes, FinishesAll, one_row};
 ghost use Rattle.basic_toml_grow.specs.Clash.{NamesObstacle};
-ghost use Rattle.basic_toml_grow.specs.Obstacles.{rows_obstacle, value_obstacle, elements_obstacle};
-ghost use Rattle.basic_toml_grow.specs.RowStops.{TellsRow, TellsExtended};
-ghost use Rattle.basic_toml_grow.specs.Takes.{TakesRows};
+ghost use Rattle.basic_toml_grow.specs.Obstacles.{value_obstacle, elements_obstacle};
+ghost use Rattle.basic_toml_grow.specs.Takes.{ExtendsBy, TakesRow, TakesRows};
 
 use crate::clash::Clash;
 use crate::item::{Child, Item, Table};
@@ -54,14 +47,7 @@ fn enter_row<'de>(
     last: &str,
     child: Child<'de>,
 ) -> Result<(), Met>
-    ensures entered { (d : Data) → child_trie child.entry ≡ leaf d
-        → EntersRow (header_texts keys.entry.now ++ last.entry.now ∷ []) d (table_trie table.old) (table_trie table.new)
-        result }
-    ensures named { IfErr result (λ met. (d : Data) → child_trie child.entry ≡ leaf d
-        → TellsRow (map key_of keys.entry.now) last.entry.now d (table_trie table.old) met) }
-    ensures origins { let row = row_origins (header_texts keys.entry.now ++ last.entry.now ∷ []) (dotted_of child.entry)
-        (child_origins child.entry) in
-        IfOk result (λ _. table_within table.new ≡ with_more (table_within table.old) row) }
+    ensures { TakesRow keys.entry.now last.entry.now child.entry table.old table.new result }
 {
     match keys.split_first() {
         None => enter_last(table, last, child),
@@ -80,14 +66,7 @@ fn enter_dotted<'de>(
     last: &str,
     child: Child<'de>,
 ) -> Result<(), Met>
-    ensures entered { let keys = header_texts (key.entry.now ∷ rest.entry.now) in
-        (d : Data) → child_trie child.entry ≡ leaf d
-        → EntersRow (keys ++ last.entry.now ∷ []) d (table_trie table.old) (table_trie table.new) result }
-    ensures named { IfErr result (λ met. (d : Data) → child_trie child.entry ≡ leaf d
-        → TellsRow (map key_of (key.entry.now ∷ rest.entry.now)) last.entry.now d (table_trie table.old) met) }
-    ensures origins { let keys = header_texts (key.entry.now ∷ rest.entry.now) in
-        let row = row_origins (keys ++ last.entry.now ∷ []) (dotted_of child.entry) (child_origins child.entry) in
-        IfOk result (λ _. table_within table.new ≡ with_more (table_within table.old) row) }
+    ensures { TakesRow (key.entry.now ∷ rest.entry.now) last.entry.now child.entry table.old table.new result }
 {
     let start = child.start;
     let section = child.section;
@@ -111,12 +90,7 @@ fn enter_dotted<'de>(
 // Puts a row's value into a table at its last key.
 #[inline(always)]
 fn enter_last<'de>(table: &mut Table<'de>, last: &str, child: Child<'de>) -> Result<(), Met>
-    ensures entered { (d : Data) → child_trie child.entry ≡ leaf d
-        → EntersRow (last.entry.now ∷ []) d (table_trie table.old) (table_trie table.new) result }
-    ensures named { IfErr result (λ met. (d : Data) → child_trie child.entry ≡ leaf d
-        → TellsRow [] last.entry.now d (table_trie table.old) met) }
-    ensures origins { let row = beyond (key_step last.entry.now) (child_origins child.entry) in
-        IfOk result (λ _. table_within table.new ≡ with_more (table_within table.old) row) }
+    ensures { TakesRow [] last.entry.now child.entry table.old table.new result }
 {
     let place = table.entries.enter_value(last, child)?;
     if place.is_new {
@@ -135,15 +109,7 @@ fn extend<'de>(
     last: &str,
     child: Child<'de>,
 ) -> Result<(), Met>
-    ensures entered { (d : Data) → child_trie child.entry ≡ leaf d
-        → Extends (header_texts keys.entry.now ++ last.entry.now ∷ []) d (child_trie there.old) (child_trie there.new)
-        result }
-    ensures named { IfErr result (λ met. (d : Data) → child_trie child.entry ≡ leaf d
-        → TellsExtended (map key_of keys.entry.now) last.entry.now d (child_trie there.old) met) }
-    ensures origins { let row = row_origins (header_texts keys.entry.now ++ last.entry.now ∷ []) (dotted_of child.entry)
-        (child_origins child.entry) in
-        IfOk result (λ _. child_origins there.new ≡ or_else (child_origins there.old)
-        (entry (dotted_of child.entry) row)) }
+    ensures { ExtendsBy keys.entry.now last.entry.now child.entry there.old there.new result }
 {
     match &mut there.item {
         Item::Table(table) => {

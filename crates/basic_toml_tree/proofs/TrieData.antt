@@ -16,7 +16,7 @@ use Rattle.basic_toml_plain.proofs.RowsData.{keys_data, rows_agree}
 use Rattle.basic_toml_grow.specs.declared.item.Item.{Item, the_lemmas}
 use Rattle.basic_toml_grow.specs.declared.item.Item.TheOpen.{Item-F, Child-F, Table-F}
 use Rattle.basic_toml_grow.specs.declared.item.Item.TheViews.{roll-Item, roll-Child, roll-Table}
-use Rattle.basic_toml_grow.specs.declared.item.Item.TheFolds.{ind-Item, ind-Child, ind-Table, map-Item, map-Child}
+use Rattle.basic_toml_grow.specs.declared.item.Item.TheFolds.{ind-Item, ind-Table, map-Item, map-Child}
 use Rattle.basic_toml_grow.specs.declared.item.Item.TheFolds.{map-Table}
 use Rattle.basic_toml_grow.specs.declared.item.Child.{Child}
 use Rattle.basic_toml_grow.specs.declared.item.Table.{Table}
@@ -206,9 +206,6 @@ table_case x y is =
 
 pub item_trie_data : (i : Item) → tree_data (item_trie i) ≡ data_of i
 item_trie_data = ind-Item OfItem OfChild OfTable item_case child_case table_case
-
-pub child_trie_data : (c : Child) → tree_data (child_trie c) ≡ child_data c
-child_trie_data = ind-Child OfItem OfChild OfTable item_case child_case table_case
 
 pub table_trie_data : (t : Table) → tree_data (table_trie t) ≡ table_data t
 table_trie_data = ind-Table OfItem OfChild OfTable item_case child_case table_case

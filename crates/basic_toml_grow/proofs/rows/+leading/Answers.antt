@@ -5,55 +5,37 @@ use Rattle.basic_toml_grammar.specs.Entering.{and_then}
 use Rattle.basic_toml_grammar.specs.Trie.{Trie, mark_here, put_row}
 use denote.Hole.Carrier.{out}
 use Rattle.basic_toml_value.specs.Growth.{with_value, values_of}
+use Rattle.basic_toml_plain.proofs.WhatIsLeft.{nothing_left}
 use Rattle.basic_toml_grow.specs.Item.{child_trie, table_trie, empty_table, trie_before}
 use Rattle.basic_toml_grow.specs.Simple.{with_entries}
 use Rattle.basic_toml_grow.proofs.ItemTries.{table_child_trie}
-use Rattle.basic_toml_grow.proofs.RowsEntered.{within, err_on, ok_on, made_there, same_key_entered, no_texts}
+use Rattle.basic_toml_grow.proofs.RowsEntered.{within, err_on, ok_on, made_there, same_key_entered}
 use Rattle.basic_toml_grow.proofs.RowsEntered.{row_on, step_put, step_refused, stands_in}
-use Rattle.basic_toml_grammar.specs.Sections.{Key, KeyTexts}
-use Rattle.basic_toml_grow.specs.Rows.{EntersRow}
 use Rattle.basic_toml_read.specs.KeyText.{key_text_bytes}
 use Rattle.basic_toml_read.specs.SectionView.{header_texts, key_of}
 use Rattle.basic_toml_read.specs.declared.section.Key as keys
 use Rattle.basic_toml_grow.specs.declared.item.Item.TheViews.{out-Item}
 use Rattle.basic_toml_grow.specs.declared.item.Table.{out-Table}
-use Rattle.basic_toml_grow.specs.RowStops.{TellsRow}
-use Rattle.basic_toml_grow.proofs.MetTellsStop.{no_keys, row_told, extended_on, extended_refused, extended_before}
+use Rattle.basic_toml_grow.proofs.MetTellsStop.{row_told, extended_on, extended_refused, extended_before}
 use Rattle.basic_toml_grow.proofs.MetTellsStop.{dotted_before, dotted_table, named_refuses, other_refuses}
 use Rattle.basic_toml_grow.specs.Origins.{table_within, child_origins, with_more, row_origins, dotted_of, entry}
 use Rattle.basic_toml_grow.specs.Origins.{no_origins}
+use Rattle.basic_toml_grow.specs.Takes.{TakesRow}
 use Rattle.basic_toml_grow.proofs.Origins.RowsPlaceOrigins.{origins_put, comes_below, origins_on}
 use Rattle.basic_toml_grow.proofs.Origins.RowsPlaceOrigins.{dotted_within, child_of_table, table_extended}
 use Rattle.basic_toml_grow.proofs.rows.+leading.Goals as goal
 
 -- a row of one key
-pub enter_row-returns-in-None-clause-entered : goal.enter_row-returns-in-None-clause-entered
-enter_row-returns-in-None-clause-entered t c = λ d is_leaf.
-    subst (λ (ks : KeyTexts). EntersRow (ks ++ c.args.last.now ∷ []) d (table_trie c.args.table.now)
-    (table_trie c.enter_last.new.table) c.enter_last.result)
-    (sym (no_texts c.args.keys.now c.in-None.ensures.cases)) (c.enter_last.ensures.entered d is_leaf)
-
-pub enter_row-returns-in-None-clause-named : goal.enter_row-returns-in-None-clause-named
-enter_row-returns-in-None-clause-named t c =
-    err_on _ _ c.enter_last.result
-    (λ met told. λ d is_leaf. subst (λ (ks : List Key). TellsRow ks c.args.last.now d (table_trie c.args.table.now) met)
-    (sym (no_keys c.args.keys.now c.in-None.ensures.cases)) (told d is_leaf)) c.enter_last.ensures.named
-
-pub enter_row-returns-in-None-clause-origins : goal.enter_row-returns-in-None-clause-origins
-enter_row-returns-in-None-clause-origins t c =
-    ok_on _ _ c.enter_last.result
-    (λ x comes. comes
-    ∙ ap (λ ks. with_more (table_within c.args.table.now) (row_origins (ks ++ c.args.last.now ∷ [])
-    (dotted_of c.args.child) (child_origins c.args.child)))
-    (sym (no_texts c.args.keys.now c.in-None.ensures.cases))) c.enter_last.ensures.origins
+pub enter_row-returns-in-None : goal.enter_row-returns-in-None
+enter_row-returns-in-None t c =
+    subst (λ (ks : List keys.Key). TakesRow ks c.args.last.now c.args.child c.args.table.now c.enter_last.new.table
+    c.enter_last.result) (sym (nothing_left c.args.keys.now c.in-None.ensures.cases)) c.enter_last.ensures
 
 -- and one of more keys
-pub enter_row-returns-in-Some-clause-named : goal.enter_row-returns-in-Some-clause-named
-enter_row-returns-in-Some-clause-named t c =
-    err_on _ _ c.enter_dotted.result
-    (λ met told. λ d is_leaf.
-    subst (λ (rs : List keys.Key). TellsRow (map key_of rs) c.args.last.now d (table_trie c.args.table.now) met)
-    (sym c.in-Some.ensures.cases.0) (told d is_leaf)) c.enter_dotted.ensures.named
+pub enter_row-returns-in-Some : goal.enter_row-returns-in-Some
+enter_row-returns-in-Some t c =
+    subst (λ (ks : List keys.Key). TakesRow ks c.args.last.now c.args.child c.args.table.now c.enter_dotted.new.table
+    c.enter_dotted.result) (sym c.in-Some.ensures.cases.0) c.enter_dotted.ensures
 
 -- what stands at the first key: a table that was made for it, where it is new
 stands_there : (t : ℕ) (c : goal.enter_dotted-After-table-1 t)
@@ -77,10 +59,11 @@ comes_new t c new =
     (λ child. child_origins child ≡ entry (dotted_of c.args.child) no_origins) c.in_ok-place.ensures.entered
     (stands_there t c) (λ child made. search rules) new
 
-pub enter_dotted-returns-clause-entered : goal.enter_dotted-returns-clause-entered
-enter_dotted-returns-clause-entered t c = λ d is_leaf.
+pub enter_dotted-returns : goal.enter_dotted-returns
+enter_dotted-returns t c =
     let table = c.args.table.now in
-    let key = key_text_bytes c.args.key.now.text in
+    let row = c.args.key.now in
+    let key = key_text_bytes row.text in
     let rest = header_texts c.args.rest.now in
     let last = c.args.last.now in
     let new = c.enter_again.new.self in
@@ -91,65 +74,45 @@ enter_dotted-returns-clause-entered t c = λ d is_leaf.
     let after = with_value (out-Table mid).entries p.position now in
     let entered = same_key_entered {new = new} c.as_str.ensures.value c.in_ok-place.ensures.entered in
     let stands = stands_there t c in
-    let g : Trie → Option Trie = λ t. and_then (mark_here dotted t) (λ t. put_row (rest ++ last ∷ []) d t) in
-    let alike : g (trie_before p.is_new (child_trie there)) ≡ g (child_trie there) =
-    ap (λ m. and_then m (λ t. put_row (rest ++ last ∷ []) d t)) (dotted_before p.is_new (child_trie there) (is_empty t c)) in
-    let on = row_on key rest last d (table_trie table) in
-    within (g (child_trie there))
-    (put_row (header_texts (c.args.key.now ∷ c.args.rest.now) ++ last ∷ []) d (table_trie table)) (child_trie now)
-    (table_trie (with_entries mid after)) c.extend.result
-    (λ refused. on ∙ step_refused table key new p entered there stands g (alike ∙ refused))
-    (λ changed. on ∙ step_put table key new p entered there stands g now mid after (alike ∙ changed) refl refl)
-    (c.extend.ensures.entered d is_leaf)
-
-pub enter_dotted-returns-clause-named : goal.enter_dotted-returns-clause-named
-enter_dotted-returns-clause-named t c =
-    let table = c.args.table.now in
-    let row = c.args.key.now in
-    let key = key_text_bytes row.text in
-    let last = c.args.last.now in
-    let new = c.enter_again.new.self in
-    let p = c.in_ok-place.place in
-    let there = c.value_mut-there.result.now in
-    let stands = stands_there t c in
-    err_on _ _ c.extend.result
-    (λ met told. λ d is_leaf.
-    row_told table key new p (same_key_entered {new = new} c.as_str.ensures.value c.in_ok-place.ensures.entered) there
-    stands met (key_of row) (map key_of c.args.rest.now) last d refl
-    (extended_before p.is_new (map key_of c.args.rest.now) last d (child_trie there) met (is_empty t c)
-    (told d is_leaf)))
-    c.extend.ensures.named
-
-pub enter_dotted-returns-clause-origins : goal.enter_dotted-returns-clause-origins
-enter_dotted-returns-clause-origins t c =
-    let table = c.args.table.now in
-    let key = key_text_bytes c.args.key.now.text in
-    let rest = header_texts c.args.rest.now in
-    let last = c.args.last.now in
-    let new = c.enter_again.new.self in
-    let mid = with_entries table new in
-    let p = c.in_ok-place.place in
-    let there = c.value_mut-there.result.now in
-    let now = c.extend.new.there in
-    let dotted = dotted_of c.args.child in
+    let dots = dotted_of c.args.child in
     let below = child_origins c.args.child in
-    let row = row_origins (rest ++ last ∷ []) dotted below in
-    ok_on _ _ c.extend.result
-    (λ x comes. origins_put table key there now new p
-    (same_key_entered {new = new} c.as_str.ensures.value c.in_ok-place.ensures.entered)
-    (stands_there t c) (entry dotted row)
-    (comes_below p.is_new dotted (child_origins there) (child_origins now) row (comes_new t c) comes) mid
-    (with_value (out-Table mid).entries p.position now) refl refl
-    ∙ ap (with_more (table_within table)) (sym (origins_on key rest last dotted below))) c.extend.ensures.origins
+    let origins = row_origins (rest ++ last ∷ []) dots below in record {
+      entered = λ d is_leaf.
+          let g : Trie → Option Trie = λ t. and_then (mark_here dotted t) (λ t. put_row (rest ++ last ∷ []) d t) in
+          let alike : g (trie_before p.is_new (child_trie there)) ≡ g (child_trie there) =
+          ap (λ m. and_then m (λ t. put_row (rest ++ last ∷ []) d t))
+          (dotted_before p.is_new (child_trie there) (is_empty t c)) in
+          let on = row_on key rest last d (table_trie table) in
+          within (g (child_trie there)) (put_row (header_texts (row ∷ c.args.rest.now) ++ last ∷ []) d (table_trie table))
+          (child_trie now) (table_trie (with_entries mid after)) c.extend.result
+          (λ refused. on ∙ step_refused table key new p entered there stands g (alike ∙ refused))
+          (λ changed. on ∙ step_put table key new p entered there stands g now mid after (alike ∙ changed) refl refl)
+          (c.extend.ensures.entered d is_leaf);
+      named = err_on _ _ c.extend.result
+          (λ met told. λ d is_leaf.
+          row_told table key new p entered there stands met (key_of row) (map key_of c.args.rest.now) last d refl
+          (extended_before p.is_new (map key_of c.args.rest.now) last d (child_trie there) met (is_empty t c)
+          (told d is_leaf))) c.extend.ensures.named;
+      origins = ok_on _ _ c.extend.result
+          (λ x comes. origins_put table key there now new p entered stands (entry dots origins)
+          (comes_below p.is_new dots (child_origins there) (child_origins now) origins (comes_new t c) comes) mid after
+          refl refl
+          ∙ ap (with_more (table_within table)) (sym (origins_on key rest last dots below))) c.extend.ensures.origins;
+    }
 
 -- what dots extend
-pub extend-returns-then-deref-clause-named : goal.extend-returns-then-deref-clause-named
+pub extend-returns-then-deref : goal.extend-returns-then-deref
 unfolding out-Item out
-extend-returns-then-deref-clause-named t c = λ d is_leaf.
+extend-returns-then-deref t c =
+    let keys = header_texts c.args.keys.now ++ c.args.last.now ∷ [] in
     let same : c.deref.result.now ≡ c.in-Table.table.value = c.deref.ensures ∙ rw c.in-Table.is refl in
-    extended_refused c.args.keys.now c.args.last.now d (child_trie c.args.there.now) (length c.args.keys.now + 2) refl
-    (named_refuses c.args.there.now c.in-Table.table c.in-Table.is
-    (ap (λ t. (out-Table t).named) (sym same) ∙ c.if-deref.true))
+    let refuses = named_refuses c.args.there.now c.in-Table.table c.in-Table.is
+    (ap (λ t. (out-Table t).named) (sym same) ∙ c.if-deref.true) in record {
+      entered = λ d is_leaf. ap (λ m. and_then m (λ t. put_row keys d t)) refuses;
+      named = λ d is_leaf. extended_refused c.args.keys.now c.args.last.now d (child_trie c.args.there.now)
+          (length c.args.keys.now + 2) refl refuses;
+      origins = tt;
+    }
 
 pub extend-returns-in_default : goal.extend-returns-in_default
 extend-returns-in_default t c =
@@ -162,48 +125,30 @@ extend-returns-in_default t c =
       origins = tt;
     }
 
-pub extend-returns-else-deref-clause-entered : goal.extend-returns-else-deref-clause-entered
+pub extend-returns-else-deref : goal.extend-returns-else-deref
 unfolding out-Item out
-extend-returns-else-deref-clause-entered t c =
-    let same : c.deref_mut.result.now ≡ c.in-Table.table.value =
-    c.deref_mut.ensures.value ∙ rw c.in-Table.is refl in
-    let was : c.deref.result.now ≡ c.in-Table.table.value = c.deref.ensures ∙ rw c.in-Table.is refl in
-    let keys = header_texts c.args.keys.now ++ c.args.last.now ∷ [] in
-    let on = dotted_table c.args.there.now c.in-Table.table c.deref_mut.result.now c.in-Table.is same
-    (ap (λ t. (out-Table t).named) (same ∙ sym was) ∙ c.if-deref.false)
-    ∙ ap (λ t. Some (table_trie t)) (sym c.deref_mut-in-Table.ensures.value) in
-    λ d is_leaf. within (put_row keys d (table_trie c.deref_mut-in-Table.result.now))
-    (and_then (mark_here dotted (child_trie c.args.there.now)) (λ t. put_row keys d t))
-    (table_trie c.enter_row.new.table) _ c.enter_row.result
-    (λ none. ap (λ m. and_then m (λ t. put_row keys d t)) on ∙ none)
-    (λ some. ap (λ m. and_then m (λ t. put_row keys d t)) on ∙ some
-    ∙ ap Some (rw c.in-Table.is (sym (table_child_trie _ _ _)))) (c.enter_row.ensures.entered d is_leaf)
-
-pub extend-returns-else-deref-clause-named : goal.extend-returns-else-deref-clause-named
-unfolding out-Item out
-extend-returns-else-deref-clause-named t c =
-    let same : c.deref_mut.result.now ≡ c.in-Table.table.value =
-    c.deref_mut.ensures.value ∙ rw c.in-Table.is refl in
-    let was : c.deref.result.now ≡ c.in-Table.table.value = c.deref.ensures ∙ rw c.in-Table.is refl in
-    err_on _ _ c.enter_row.result
-    (λ met told. λ d is_leaf. extended_on (map key_of c.args.keys.now) c.args.last.now d (child_trie c.args.there.now)
-    (table_trie c.deref_mut-in-Table.result.now) met
-    (dotted_table c.args.there.now c.in-Table.table c.deref_mut.result.now c.in-Table.is same
-    (ap (λ t. (out-Table t).named) (same ∙ sym was) ∙ c.if-deref.false)
-    ∙ ap (λ t. Some (table_trie t)) (sym c.deref_mut-in-Table.ensures.value)) (told d is_leaf))
-    c.enter_row.ensures.named
-
-pub extend-returns-else-deref-clause-origins : goal.extend-returns-else-deref-clause-origins
-unfolding out-Item out
-extend-returns-else-deref-clause-origins t c =
+extend-returns-else-deref t c =
     let there = c.args.there.now in
     let old = c.in-Table.table in
     let now = c.deref_mut.result.now in
     let same : now ≡ old.value = c.deref_mut.ensures.value ∙ rw c.in-Table.is refl in
-    let within = ap table_within c.deref_mut-in-Table.ensures.value ∙ dotted_within now ∙ ap table_within same in
-    ok_on _ _ c.enter_row.result
-    (λ x comes. (rw c.in-Table.is (child_of_table _ there.start there.section))
-    ∙ table_extended there old c.deref_mut-in-Table.result.now c.enter_row.new.table
-    (row_origins (header_texts c.args.keys.now ++ c.args.last.now ∷ []) (dotted_of c.args.child)
-    (child_origins c.args.child)) (dotted_of c.args.child) c.in-Table.is within comes)
-    c.enter_row.ensures.origins
+    let was : c.deref.result.now ≡ old.value = c.deref.ensures ∙ rw c.in-Table.is refl in
+    let keys = header_texts c.args.keys.now ++ c.args.last.now ∷ [] in
+    let on = dotted_table there old now c.in-Table.is same
+    (ap (λ t. (out-Table t).named) (same ∙ sym was) ∙ c.if-deref.false)
+    ∙ ap (λ t. Some (table_trie t)) (sym c.deref_mut-in-Table.ensures.value) in
+    let within_is = ap table_within c.deref_mut-in-Table.ensures.value ∙ dotted_within now ∙ ap table_within same in record {
+      entered = λ d is_leaf. within (put_row keys d (table_trie c.deref_mut-in-Table.result.now))
+          (and_then (mark_here dotted (child_trie there)) (λ t. put_row keys d t)) (table_trie c.enter_row.new.table) _
+          c.enter_row.result (λ none. ap (λ m. and_then m (λ t. put_row keys d t)) on ∙ none)
+          (λ some. ap (λ m. and_then m (λ t. put_row keys d t)) on ∙ some
+          ∙ ap Some (rw c.in-Table.is (sym (table_child_trie _ _ _)))) (c.enter_row.ensures.entered d is_leaf);
+      named = err_on _ _ c.enter_row.result
+          (λ met told. λ d is_leaf. extended_on (map key_of c.args.keys.now) c.args.last.now d (child_trie there)
+          (table_trie c.deref_mut-in-Table.result.now) met on (told d is_leaf)) c.enter_row.ensures.named;
+      origins = ok_on _ _ c.enter_row.result
+          (λ x comes. (rw c.in-Table.is (child_of_table _ there.start there.section))
+          ∙ table_extended there old c.deref_mut-in-Table.result.now c.enter_row.new.table
+          (row_origins keys (dotted_of c.args.child) (child_origins c.args.child)) (dotted_of c.args.child) c.in-Table.is
+          within_is comes) c.enter_row.ensures.origins;
+    }
