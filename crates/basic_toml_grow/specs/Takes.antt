@@ -1,8 +1,8 @@
 -- What a section does to a table, to what stands at a key and to an item: what is entered or what is met first, where
 -- what its rows bring comes from, and what its header marks.
-use Rattle.std.specs.Prelude.{◌≡◌, ℕ, ◌+◌, Bool, List, [], ◌∷◌, ◌++◌, map, Result, IfErr, IfOk}
+use Rattle.std.specs.Prelude.{◌≡◌, ℕ, ◌+◌, Bool, false, List, [], ◌∷◌, ◌++◌, map, Result, IfErr, IfOk}
 use Rattle.basic_toml_value.specs.Data.{Data}
-use Rattle.basic_toml_grammar.specs.Sections.{KeyTexts, Rows}
+use Rattle.basic_toml_grammar.specs.Sections.{KeyTexts, Raw, Rows}
 use Rattle.basic_toml_read.specs.declared.section.Key as keys
 use Rattle.basic_toml_read.specs.SectionView.{header_texts, key_of}
 use Rattle.basic_toml_plain.specs.Tries.{leaf}
@@ -15,10 +15,11 @@ use Rattle.basic_toml_grow.specs.Clash.{NamesObstacle}
 use Rattle.basic_toml_grow.specs.Item.{child_trie, item_trie, table_trie, trie_before}
 use Rattle.basic_toml_grow.specs.Headers.{EntersHeader, EntersItem, entered_at, entered_by, steps_at, steps_by}
 use Rattle.basic_toml_grow.specs.Headers.{obstacle_at, obstacle_by}
-use Rattle.basic_toml_grow.specs.Obstacles.{keys_obstacle, rows_obstacle}
+use Rattle.basic_toml_grow.specs.Obstacles.{keys_obstacle, rows_obstacle, value_obstacle}
 use Rattle.basic_toml_grow.specs.Origins.{child_origins, item_origins, origins_before, rows_origins, table_within}
-use Rattle.basic_toml_grow.specs.Origins.{dotted_of, entry, or_else, row_origins, with_more}
-use Rattle.basic_toml_grow.specs.Rows.{EntersRow, EntersRows, Extends}
+use Rattle.basic_toml_grow.specs.Origins.{dotted_of, entry, or_else, row_origins, table_origin, value_origins}
+use Rattle.basic_toml_grow.specs.Origins.{with_more}
+use Rattle.basic_toml_grow.specs.Rows.{EntersRow, EntersRows, Extends, Finishes}
 use Rattle.basic_toml_grow.specs.RowStops.{TellsRow, TellsExtended}
 use Rattle.basic_toml_grow.specs.Ways.{GrowsAlong, MarksTable, MarksWay, way, way_at, way_by}
 
@@ -47,6 +48,13 @@ pub record ExtendsBy (parents : List keys.Key) (last : List ℕ) (child old new 
       → TellsExtended (map key_of parents) last d (child_trie old) met)
   pub origins : IfOk r (λ _. child_origins new ≡ or_else (child_origins old) (entry (dotted_of child)
       (row_origins (header_texts parents ++ last ∷ []) (dotted_of child) (child_origins child))))
+
+-- a value that begins at an offset of a section, within something of a level, as the child that it is kept as
+pub record MakesChild (v : Raw) (start section level : ℕ) (r : Result Child Clash) : Type 0 where
+  pub finished : Finishes v level r
+  pub named : IfErr r (λ clash. NamesObstacle (value_obstacle level v) clash)
+  pub origins : IfOk r (λ child. child_origins child ≡ value_origins section start v)
+  pub dotted : IfOk r (λ child. dotted_of child ≡ table_origin false start section)
 
 -- a header that goes on from a table of a level by the keys that are left
 pub record TakesHeader (a : Bool) (rows : Rows) (keys : KeyTexts) (level n : ℕ) (old new : Table)

@@ -13,7 +13,7 @@ ghost use Rattle.basic_toml_grow.specs.Origins.{dotted_of, table_origin};
 ghost use Rattle.basic_toml_grow.specs.Rows.{Finishes, FinishesAll, one_row};
 ghost use Rattle.basic_toml_grow.specs.Clash.{NamesObstacle};
 ghost use Rattle.basic_toml_grow.specs.Obstacles.{value_obstacle, elements_obstacle};
-ghost use Rattle.basic_toml_grow.specs.Takes.{ExtendsBy, TakesRow, TakesRows};
+ghost use Rattle.basic_toml_grow.specs.Takes.{ExtendsBy, MakesChild, TakesRow, TakesRows};
 
 use crate::clash::Clash;
 use crate::item::{Child, Item, Table};
@@ -313,10 +313,7 @@ fn row_value<'de>(
     looks: usize,
 ) -> Result<Child<'de>, Clash>
     requires { level ≤ nesting_limit }
-    ensures finished { Finishes (raw_of value.entry) level result }
-    ensures named { IfErr result (λ clash. NamesObstacle (value_obstacle level (raw_of value.entry)) clash) }
-    ensures origins { IfOk result (λ child. child_origins child ≡ value_origins section start (raw_of value.entry)) }
-    ensures dotted { IfOk result (λ child. dotted_of child ≡ table_origin false start section) }
+    ensures { MakesChild (raw_of value.entry) start section level result }
 {
     let value = match value {
         Raw::Array(elements) => {
@@ -351,10 +348,7 @@ fn child_of<'de>(
     looks: usize,
 ) -> Result<Child<'de>, Clash>
     requires { level ≤ nesting_limit }
-    ensures finished { Finishes (raw_of value.entry) level result }
-    ensures named { IfErr result (λ clash. NamesObstacle (value_obstacle level (raw_of value.entry)) clash) }
-    ensures origins { IfOk result (λ child. child_origins child ≡ value_origins section start (raw_of value.entry)) }
-    ensures dotted { IfOk result (λ child. dotted_of child ≡ table_origin false start section) }
+    ensures { MakesChild (raw_of value.entry) start section level result }
 {
     let rows = match value {
         Raw::Integer(number) => return Ok(Child::at(start, section, Item::Integer(number))),
@@ -391,12 +385,7 @@ fn inline_child<'de>(
     looks: usize,
 ) -> Result<Child<'de>, Clash>
     requires { level ≤ nesting_limit }
-    ensures finished { Finishes (spec_raw.inline (rows_view rows.entry)) level result }
-    ensures named { IfErr result (λ clash.
-        NamesObstacle (value_obstacle level (spec_raw.inline (rows_view rows.entry))) clash) }
-    ensures origins { IfOk result (λ child.
-        child_origins child ≡ value_origins section start (spec_raw.inline (rows_view rows.entry))) }
-    ensures dotted { IfOk result (λ child. dotted_of child ≡ table_origin false start section) }
+    ensures { MakesChild (spec_raw.inline (rows_view rows.entry)) start section level result }
 {
     if level >= NESTING_LIMIT {
         return Err(Clash::Deep);

@@ -1,5 +1,5 @@
 use Rattle.std.proofs.Common.{refl, ◌≡◌, [], ◌∷◌, ◌++◌, ap, ◌∙◌, sym, subst, arith, Some, List, map, Bool}
-use Rattle.std.proofs.Common.{false, true, ◌+◌, ℕ, length, take, drop}
+use Rattle.std.proofs.Common.{rules, false, true, ◌+◌, ℕ, length, take, drop}
 use Rattle.std.proofs.lemmas.Result.{err_from_is_err_and}
 use Rattle.basic_toml_grammar.specs.Trie.{Trie}
 use Rattle.basic_toml_read.specs.SectionView.{key_of, header_texts, rows_seen, rows_view, elements_view, raw_of}
@@ -246,28 +246,6 @@ children_of-returns-clause-finished t c =
     subst (λ (es : List Element). AreFinished (elements_view es) c.args.level ts) start
     (elements_done (elements_view c.into_iter-element-iterator.result) c.args.level ts left)
 
-pub inline_child-returns-in_err-take_any_rows-clause-finished : goal.inline_child-returns-in_err-take_any_rows-clause-finished
-inline_child-returns-in_err-take_any_rows-clause-finished t c =
-    let p = err_from_is_err_and c.from_residual-in_err-take_any_rows.result c.from_residual-in_err-take_any_rows.ensures.1 in
-    rw (p.1, p.2) (inline_kept_out (rows_view c.args.rows) (Some (standings.table false false false))
-    (table_trie c.deref_mut.result.now) c.args.level c.in_err-take_any_rows.field-0.0 (are_keyed c.args.rows)
-    (ap table_trie c.deref_mut.ensures.value ∙ c.in_ok-table.ensures) c.in_err-take_any_rows.ensures.entered)
-
-pub inline_child-returns-clause-finished : goal.inline_child-returns-clause-finished
-inline_child-returns-clause-finished t c =
-    subst (λ (u : Trie). IsFinished (Raw.inline (rows_view c.args.rows)) c.args.level u) (sym c.at.ensures.trie)
-    (inline_finished (rows_view c.args.rows) (boxes.with_value c.in_ok-table.table c.take_any_rows.new.table)
-    (Some (standings.table false false false)) (table_trie c.deref_mut.result.now) c.args.level
-    (are_keyed c.args.rows) (omega arith) (ap table_trie c.deref_mut.ensures.value ∙ c.in_ok-table.ensures)
-    c.in_ok-take_any_rows.ensures.entered)
-
-pub inline_child-returns-in_err-take_any_rows-clause-named : goal.inline_child-returns-in_err-take_any_rows-clause-named
-inline_child-returns-in_err-take_any_rows-clause-named t c =
-    let p = err_from_is_err_and c.from_residual-in_err-take_any_rows.result c.from_residual-in_err-take_any_rows.ensures.1 in
-    rw (p.1, p.2) (inline_stopped (rows_view c.args.rows) (Some (standings.table false false false))
-    (table_trie c.deref_mut.result.now) c.args.level c.in_err-take_any_rows.field-0.0 (are_keyed c.args.rows) (omega arith)
-    (ap table_trie c.deref_mut.ensures.value ∙ c.in_ok-table.ensures) c.in_err-take_any_rows.ensures.named)
-
 pub children_of-returns-in_err-child-clause-named :
     goal.children_of-returns-in_err-child-clause-named
 children_of-returns-in_err-child-clause-named t c =
@@ -294,17 +272,41 @@ children_of-returns-clause-origins t c =
     c.loop-element.children.items come
     ∙ ap (λ es. elements_origins c.args.section (elements_view es)) start
 
-pub inline_child-returns-clause-origins : goal.inline_child-returns-clause-origins
-inline_child-returns-clause-origins t c =
+-- an inline table of other rows
+pub inline_child-returns-in_err-take_any_rows : goal.inline_child-returns-in_err-take_any_rows
+inline_child-returns-in_err-take_any_rows t c =
+    let p = err_from_is_err_and c.from_residual-in_err-take_any_rows.result c.from_residual-in_err-take_any_rows.ensures.1 in
+    let rows = rows_view c.args.rows in
+    let standing = Some (standings.table false false false) in
+    let new = table_trie c.deref_mut.result.now in
+    let clash = c.in_err-take_any_rows.field-0.0 in
+    let is_new = ap table_trie c.deref_mut.ensures.value ∙ c.in_ok-table.ensures in record {
+      finished = rw (p.1, p.2) (inline_kept_out rows standing new c.args.level clash (are_keyed c.args.rows) is_new
+          c.in_err-take_any_rows.ensures.entered);
+      named = rw (p.1, p.2) (inline_stopped rows standing new c.args.level clash (are_keyed c.args.rows) (omega arith)
+          is_new c.in_err-take_any_rows.ensures.named);
+      origins = rw p.1 tt;
+      dotted = rw p.1 tt;
+    }
+
+pub inline_child-returns : goal.inline_child-returns
+inline_child-returns t c =
     let s = c.args.section in
     let rows = rows_view c.args.rows in
     let new = c.in_ok-table.table in
-    let table = boxes.with_value new c.take_any_rows.new.table in
-    c.at.ensures.origins ∙ inline_seen table c.args.start s
-    ∙ ap (λ w. entry (value_origin (codes "inline table") c.args.start s) w.below)
-    (c.in_ok-take_any_rows.ensures.origins
-    ∙ ap (λ w. with_more w (rows_origins s rows)) (ap table_within c.deref_mut.ensures.value
-    ∙ fresh_within new.value c.in_ok-table.ensures))
+    let table = boxes.with_value new c.take_any_rows.new.table in record {
+      finished = subst (λ (u : Trie). IsFinished (Raw.inline rows) c.args.level u) (sym c.at.ensures.trie)
+          (inline_finished rows table (Some (standings.table false false false)) (table_trie c.deref_mut.result.now)
+          c.args.level (are_keyed c.args.rows) (omega arith)
+          (ap table_trie c.deref_mut.ensures.value ∙ c.in_ok-table.ensures) c.in_ok-take_any_rows.ensures.entered);
+      named = tt;
+      origins = c.at.ensures.origins ∙ inline_seen table c.args.start s
+          ∙ ap (λ w. entry (value_origin (codes "inline table") c.args.start s) w.below)
+          (c.in_ok-take_any_rows.ensures.origins
+          ∙ ap (λ w. with_more w (rows_origins s rows)) (ap table_within c.deref_mut.ensures.value
+          ∙ fresh_within new.value c.in_ok-table.ensures));
+      dotted = search rules;
+    }
 
 -- what is looked through, as it stands in the value
 array_seen : (l : ℕ) (elements seen : List Element) (looked : Bool) → seen ≡ elements → looked ≡ are_plain l seen
@@ -318,15 +320,20 @@ row_value-new-array-requires t c =
     (array_seen (c.args.level + 1) c.in-Array.elements.items c.as_slice.result.now c.are_plain.result
     c.as_slice.ensures.value c.are_plain.ensures c.if-are_plain.true)
 
-pub row_value-returns-then-are_plain-clause-finished : goal.row_value-returns-then-are_plain-clause-finished
-row_value-returns-then-are_plain-clause-finished t c =
+pub row_value-returns-then-are_plain : goal.row_value-returns-then-are_plain
+row_value-returns-then-are_plain t c =
     let plain = array_seen (c.args.level + 1) c.in-Array.elements.items c.as_slice.result.now c.are_plain.result
     c.as_slice.ensures.value c.are_plain.ensures c.if-are_plain.true in
     let trie : child_trie c.at.result ≡ item_trie (items.Plain c.in-Array.elements.items) =
-    c.at.ensures.trie ∙ ap (λ es. item_trie (items.Plain es)) c.new-array.ensures in
-    subst (λ (v : raws.Raw). IsFinished (raw_of v) c.args.level (child_trie c.at.result)) (sym c.in-Array.is)
-    (subst (λ (u : Trie). IsFinished (raw_of (raws.Array c.in-Array.elements)) c.args.level u) (sym trie)
-    (plain_finished c.in-Array.elements c.args.level plain c.if-level-lt-NESTING_LIMIT.true))
+    c.at.ensures.trie ∙ ap (λ es. item_trie (items.Plain es)) c.new-array.ensures in record {
+      finished = subst (λ (v : raws.Raw). IsFinished (raw_of v) c.args.level (child_trie c.at.result))
+          (sym c.in-Array.is)
+          (subst (λ (u : Trie). IsFinished (raw_of (raws.Array c.in-Array.elements)) c.args.level u) (sym trie)
+          (plain_finished c.in-Array.elements c.args.level plain c.if-level-lt-NESTING_LIMIT.true));
+      named = tt;
+      origins = search (rules, items.the_lemmas, raws.the_lemmas);
+      dotted = search rules;
+    }
 
 -- and an inline table
 pub row_value-new-table-requires : goal.row_value-new-table-requires
@@ -336,17 +343,21 @@ row_value-new-table-requires t c =
     c.are_few_simple.result c.as_slice-then-level-lt-NESTING_LIMIT-2.ensures.value c.are_few_simple.ensures
     c.if-are_few_simple.true)
 
-pub row_value-returns-then-are_few_simple-clause-finished : goal.row_value-returns-then-are_few_simple-clause-finished
-row_value-returns-then-are_few_simple-clause-finished t c =
+pub row_value-returns-then-are_few_simple : goal.row_value-returns-then-are_few_simple
+row_value-returns-then-are_few_simple t c =
     let plain = few_seen (c.args.level + 1) c.in-Inline.rows.items c.as_slice-then-level-lt-NESTING_LIMIT-2.result.now
     c.are_few_simple.result c.as_slice-then-level-lt-NESTING_LIMIT-2.ensures.value c.are_few_simple.ensures
     c.if-are_few_simple.true in
-    let trie : child_trie c.at-then-are_few_simple.result ≡ item_trie (items.Rows c.in-Inline.rows.items) =
-    c.at-then-are_few_simple.ensures.trie ∙ ap (λ rows. item_trie (items.Rows rows)) c.new-table.ensures in
-    subst (λ (v : raws.Raw). IsFinished (raw_of v) c.args.level (child_trie c.at-then-are_few_simple.result))
-    (sym c.in-Inline.is)
-    (subst (λ (u : Trie). IsFinished (raw_of (raws.Inline c.in-Inline.rows)) c.args.level u) (sym trie)
-    (table_finished c.in-Inline.rows c.args.level plain c.if-level-lt-NESTING_LIMIT-2.true))
+    let now = c.at-then-are_few_simple.result in
+    let trie : child_trie now ≡ item_trie (items.Rows c.in-Inline.rows.items) =
+    c.at-then-are_few_simple.ensures.trie ∙ ap (λ rows. item_trie (items.Rows rows)) c.new-table.ensures in record {
+      finished = subst (λ (v : raws.Raw). IsFinished (raw_of v) c.args.level (child_trie now)) (sym c.in-Inline.is)
+          (subst (λ (u : Trie). IsFinished (raw_of (raws.Inline c.in-Inline.rows)) c.args.level u) (sym trie)
+          (table_finished c.in-Inline.rows c.args.level plain c.if-level-lt-NESTING_LIMIT-2.true));
+      named = tt;
+      origins = search (rules, items.the_lemmas, raws.the_lemmas);
+      dotted = search rules;
+    }
 
 pub take_many_rows-with_first_rows-requires-clause-plain : goal.take_many_rows-with_first_rows-requires-clause-plain
 take_many_rows-with_first_rows-requires-clause-plain t c =
