@@ -7,11 +7,9 @@ use Rattle.basic_toml_tokens.specs.Text.{Text, text_at, is_comment, after_blanks
 use Rattle.basic_toml_tokens.specs.Punctuation.{IsPunctuationEnd}
 use Rattle.basic_toml_grammar.specs.Sections.{Key}
 use Rattle.basic_toml_grammar.specs.Grammar.{after_gap}
-use Rattle.basic_toml_grammar.specs.DeepStops.{DeepKeys, this_key, later_key, DeepRow, value, DeepValue, array, inline, DeepArray}
-use Rattle.basic_toml_grammar.specs.DeepStops.{DeepElements, elements, DeepInline, DeepFields, fields, DeepHeader}
-use Rattle.basic_toml_grammar.specs.DeepStops.{table, array_of_tables}
-use Rattle.basic_toml_grammar.specs.Reader.{char_at}
-use Rattle.basic_toml_grammar.proofs.Grammar.ReaderIsSound.{sign_read}
+use Rattle.basic_toml_grammar.specs.DeepStops.{DeepArray, DeepElements, DeepFields, DeepHeader, DeepInline, DeepKeys}
+use Rattle.basic_toml_grammar.specs.DeepStops.{DeepRow, DeepValue, array, array_of_tables, elements, fields, inline}
+use Rattle.basic_toml_grammar.specs.DeepStops.{later_key, table, this_key, value}
 use Rattle.basic_toml_grammar.proofs.Grammar.ReaderIsComplete.{key_found}
 use Rattle.basic_toml_grammar.proofs.Nesting.WithinTheLimit.{no_such}
 use Rattle.basic_toml_read.proofs.LeftAfter.{sign_missing}
@@ -30,6 +28,7 @@ use Rattle.basic_toml_read.specs.StopsReached.{IfDeep, AtDeep}
 use Rattle.basic_toml_read.proofs.DeepFurtherOn.{sign_after}
 use Rattle.basic_toml_read.proofs.NothingTooDeep.{keys_there}
 use Rattle.basic_toml_read.proofs.KeysTold.{stopped}
+use Rattle.basic_toml_read.proofs.HeaderBrackets.{OneBracket, TwoBrackets}
 
 -- a stop of the grammar
 abbrev pub IsOther : Why → Type 0
@@ -42,13 +41,13 @@ is_missed Memory o P other m = absurd other
 is_missed Deep o P other m = absurd other
 is_missed _ o P other m = m
 
-at_deep : (Inner Outer : ℕ → Type 0) (w : Why) (at : ℕ) → ((p : ℕ) → Inner p → Outer p)
+pub at_deep : (Inner Outer : ℕ → Type 0) (w : Why) (at : ℕ) → ((p : ℕ) → Inner p → Outer p)
     → (IsOther w → (p : ℕ) → Outer p → Inner p) → AtDeep Inner w at → AtDeep Outer w at
 at_deep Inner Outer Memory at f g d = tt
 at_deep Inner Outer Deep at f g d = f at d
 at_deep Inner Outer _ at f g d = λ p e. d p (g tt p e)
 
-at_none : (Outer : ℕ → Type 0) (w : Why) (at : ℕ) → (w ≡ Deep → ⊥) → (IsOther w → (p : ℕ) → Outer p → ⊥)
+pub at_none : (Outer : ℕ → Type 0) (w : Why) (at : ℕ) → (w ≡ Deep → ⊥) → (IsOther w → (p : ℕ) → Outer p → ⊥)
     → AtDeep Outer w at
 at_none Outer Memory at f g = tt
 at_none Outer Deep at f g = absurd (f refl)
@@ -133,30 +132,21 @@ unclosed_here Outer c w bytes at stop result e other clear r =
     (subst (λ (s : Stop). AtDeep Outer s.why s.at) (sym r.1) (at_none Outer w at other (λ o. clear)))
 
 -- from the keys of a header to the header
-pub header_keys_deep : (bytes : List ℕ) (at inner start : ℕ)
-    → char_at 91 (text_at bytes at) ≡ Some (at, text_at bytes inner)
-    → Leaves bytes inner start (after_blanks (text_at bytes inner)) → (p : ℕ)
-    → DeepKeys nesting_limit 2 (text_at bytes start) p
-    → DeepHeader nesting_limit (text_at bytes at) p
-header_keys_deep bytes at inner start sign left p d =
-    table (sign_read 91 (text_at bytes at) (at, text_at bytes inner) sign)
-    (subst (λ (t : Text). DeepKeys nesting_limit 2 t p) left.left d)
+pub table_keys_deep : {bytes : List ℕ} {at start : ℕ} → OneBracket bytes at start → (p : ℕ)
+    → DeepKeys nesting_limit 2 (text_at bytes start) p → DeepHeader nesting_limit (text_at bytes at) p
+table_keys_deep b p d = table b.bracket (subst (λ (t : Text). DeepKeys nesting_limit 2 t p) b.left.left d)
 
-pub array_keys_deep : (bytes : List ℕ) (at inner first start : ℕ)
-    → char_at 91 (text_at bytes at) ≡ Some (at, text_at bytes inner) → IsPunctuationEnd 91 bytes inner (Some first)
-    → Leaves bytes first start (after_blanks (text_at bytes first)) → (p : ℕ)
-    → DeepKeys nesting_limit 2 (text_at bytes start) p
-    → DeepHeader nesting_limit (text_at bytes at) p
-array_keys_deep bytes at inner first start sign two left p d =
-    array_of_tables (sign_read 91 (text_at bytes at) (at, text_at bytes inner) sign)
-    (sign_after bytes inner first 91 refl two) (subst (λ (t : Text). DeepKeys nesting_limit 2 t p) left.left d)
+pub array_keys_deep : {bytes : List ℕ} {at start : ℕ} → TwoBrackets bytes at start → (p : ℕ)
+    → DeepKeys nesting_limit 2 (text_at bytes start) p → DeepHeader nesting_limit (text_at bytes at) p
+array_keys_deep b p d =
+    array_of_tables b.bracket b.second (subst (λ (t : Text). DeepKeys nesting_limit 2 t p) b.left.left d)
 
 -- from a value to its row
-pub value_deep : (bytes : List ℕ) (at level : ℕ) (old new : Gathered) (last : LastKey) (next start : ℕ)
-    → IsLastKey bytes at level old new last → IsPunctuationEnd 61 bytes last.end (Some next)
-    → Leaves bytes next start (after_blanks (text_at bytes next)) → (p : ℕ)
+pub value_deep : {bytes : List ℕ} {at level next start : ℕ} {old new : Gathered} {last : LastKey}
+    → IsLastKey bytes at level old new last → Leaves bytes next start (after_blanks (text_at bytes next))
+    → IsPunctuationEnd 61 bytes last.end (Some next) → (p : ℕ)
     → DeepValue nesting_limit last.level (text_at bytes start) p → DeepRow nesting_limit level (text_at bytes at) p
-value_deep bytes at level old new last next start k sign left p d =
+value_deep {bytes = bytes} {at = at} {level = level} {next = next} {start = start} {last = last} k left sign p d =
     let keys : List Key = k.front ++ (record { offset = last.offset; text = key_text_bytes last.key } ∷ []) in
     let same : last.level ≡ level + length keys - 1 =
     omega (
@@ -179,16 +169,16 @@ pub inline_deep : (bytes : List ℕ) (at next level : ℕ) → IsPunctuationEnd 
     → DeepValue nesting_limit level (text_at bytes at) p
 inline_deep bytes at next level sign p d = inline (sign_after bytes at next 123 refl sign) d
 
-pub elements_deep : (bytes : List ℕ) (offset at start level : ℕ) → level ≤ nesting_limit
+pub elements_deep : {bytes : List ℕ} {at start level : ℕ} (offset : ℕ) → level ≤ nesting_limit
     → Leaves bytes at start (after_gap is_comment (text_at bytes at)) → (p : ℕ)
     → DeepElements nesting_limit level (text_at bytes start) p
     → DeepArray nesting_limit level offset (text_at bytes at) p
-elements_deep bytes offset at start level h left p d =
+elements_deep {level = level} offset h left p d =
     elements h (subst (λ (t : Text). DeepElements nesting_limit level t p) left.left d)
 
-pub fields_deep : (bytes : List ℕ) (offset at start level : ℕ) → level ≤ nesting_limit
+pub fields_deep : {bytes : List ℕ} {at start level : ℕ} (offset : ℕ) → level ≤ nesting_limit
     → Leaves bytes at start (after_blanks (text_at bytes at)) → (p : ℕ)
     → DeepFields nesting_limit level (text_at bytes start) p
     → DeepInline nesting_limit level offset (text_at bytes at) p
-fields_deep bytes offset at start level h left p d =
+fields_deep {level = level} offset h left p d =
     fields h (subst (λ (t : Text). DeepFields nesting_limit level t p) left.left d)

@@ -1,6 +1,6 @@
 -- The elements of an array, one by one.
 use Rattle.std.proofs.Common.{inl, inr, ◌≡◌, ℕ, ◌<◌, ◌≤◌, List, [], ◌∷◌, ◌++◌, max, refl, ap, sym, ◌∙◌, subst, arith}
-use Rattle.std.proofs.Common.{append_assoc, append-nil, Option, Some, None, Result, Ok, Err}
+use Rattle.std.proofs.Common.{append_assoc, append-nil, Option, Some, None, Result, Ok, Err, Vec, Global}
 use Rattle.std.specs.Str.{IsCharBoundary}
 use Rattle.basic_toml_value.specs.Nesting.{nesting_limit}
 use Rattle.basic_toml_tokens.specs.Text.{Text, text_at}
@@ -33,7 +33,7 @@ use Rattle.basic_toml_read.proofs.ValueHoles.{hole_past_element}
 use Rattle.basic_toml_read.proofs.EnoughSteps.{elements_is}
 use Rattle.basic_toml_read.proofs.LeftAfter.{sign_there, sign_missing}
 use Rattle.basic_toml_read.proofs.ViewsSeen.{element_seen}
-use Rattle.basic_toml_read.proofs.KeysTold.{misses_then}
+use Rattle.basic_toml_read.proofs.KeysTold.{misses_on}
 
 -- elements one after another
 pub joined : Elements → Elements → Elements
@@ -84,6 +84,9 @@ elements_view_more [] v raw e =
     ∙ ap (λ o. element v.offset o no_elements) e
 elements_view_more (x ∷ es) v raw e =
     ap (element (placed_of x).offset (placed_of x).value) (elements_view_more es v raw e)
+
+abbrev pub with_elements : Gathered → Vec Element Global → Gathered
+with_elements g elements = record { alloc = g.alloc; elements = elements; parents = g.parents; rows = g.rows }
 
 -- the elements of an array up to an offset
 pub record ElementsSoFar (bytes : List ℕ) (start level at : ℕ) (old new : Gathered) : Type 0 where
@@ -146,10 +149,11 @@ level_on l v r e =
           omega (arith, ap (elements_level l) there))
     ]
 
-module _ (bytes : List ℕ) (start level at : ℕ) (old new : Gathered) (s : ElementsSoFar bytes start level at old new)
+module _ {bytes : List ℕ} {start level at : ℕ} {old new : Gathered} (s : ElementsSoFar bytes start level at old new)
   where
     -- the closing bracket
-    pub elements_end : (end : ℕ) → IsPunctuationEnd 93 bytes at (Some end) → AreElementsRead bytes start level old new end
+    pub elements_end : (end : ℕ) → IsPunctuationEnd 93 bytes at (Some end)
+        → AreElementsRead bytes start level old new end
     unfolding after_elements
     elements_end end sign = record {
       added = s.got;
@@ -173,36 +177,20 @@ module _ (bytes : List ℕ) (start level at : ℕ) (old new : Gathered) (s : Ele
         → Misses w (elements_of (text_at bytes start)) (λ r. nesting_limit < elements_level level r.0)
     unfolding after_elements
     elements_missing w sign m =
-        misses_then w (value_of (text_at bytes at)) (elements_of (text_at bytes start))
-        (λ v. nesting_limit < value_level level v.value) (λ r. nesting_limit < elements_level level r.0)
-        (λ e. there ∙ ap (λ o. after_elements (elements_view s.got) (and_then o elements_on)) e)
-        (λ y e. let (r, r_is, f) =
-        then_some (and_then (value_of (text_at bytes at)) elements_on)
-        (λ r. Some (joined (elements_view s.got) r.0, r.1)) y (sym there ∙ e) in
-        let (v, v_is, g) = then_some (value_of (text_at bytes at)) elements_on r r_is in
-        let same : joined (elements_view s.got) r.0 ≡ y.0 = cc in (
-          v,
-          v_is,
-          λ h. omega (
-            arith,
-            h,
-            level_on level v r g,
-            ap (elements_level level) same,
-            level_joined level (elements_view s.got) r.0,
-          ),
-        ))
-        m
-      where
-        there : elements_of (text_at bytes start)
-            ≡ after_elements (elements_view s.got) (and_then (value_of (text_at bytes at)) elements_on)
-        there = s.told ∙ ap (after_elements (elements_view s.got))
-            (elements_by_value (text_at bytes at) (sign_missing 93 (text_at bytes at) sign))
+        misses_on w (and_then (value_of (text_at bytes at)) elements_on)
+        (λ r. Some (joined (elements_view s.got) r.0, r.1)) (λ r. nesting_limit < elements_level level r.0)
+        (λ r. nesting_limit < elements_level level r.0)
+        (s.told ∙ ap (after_elements (elements_view s.got))
+        (elements_by_value (text_at bytes at) (sign_missing 93 (text_at bytes at) sign)))
+        (λ r y e h. let same : joined (elements_view s.got) r.0 ≡ y.0 = cc in
+        omega (arith, h, ap (elements_level level) same, level_joined level (elements_view s.got) r.0))
+        (misses_on w (value_of (text_at bytes at)) elements_on (λ v. nesting_limit < value_level level v.value)
+        (λ r. nesting_limit < elements_level level r.0) refl (λ v r e h. omega (arith, h, level_on level v r e)) m)
 
     -- after a value
-    module _ (mid new' : Gathered) (v : Valued) (r : IsValueRead bytes at level new mid v) (after : ℕ)
+    module _ {mid : Gathered} {v : Valued} {after : ℕ} (r : IsValueRead bytes at level new mid v)
         (left : Leaves bytes v.end after (gap (text_at bytes v.end))) (unclosed : IsPunctuationEnd 93 bytes at None)
-        (pushed : new'.elements.items ≡ mid.elements.items ++ element_of v ∷ [])
-        (lines : lines_of new' ≡ lines_of mid) where
+        (elements : Vec Element Global) (pushed : elements.items ≡ mid.elements.items ++ element_of v ∷ []) where
       view' : elements_view (s.got ++ element_of v ∷ [])
           ≡ joined (elements_view s.got) (element v.offset r.found.raw no_elements)
       view' = elements_view_more s.got v r.found.raw r.found.seen
@@ -216,7 +204,7 @@ module _ (bytes : List ℕ) (start level at : ℕ) (old new : Gathered) (s : Ele
         r.limit,
       )
 
-      pushed' : new'.elements.items ≡ old.elements.items ++ (s.got ++ element_of v ∷ [])
+      pushed' : elements.items ≡ old.elements.items ++ (s.got ++ element_of v ∷ [])
       pushed' = pushed ∙ ap (λ (l : List Element). l ++ element_of v ∷ []) (r.keeps.elements ∙ s.pushed)
           ∙ append_assoc old.elements.items s.got (element_of v ∷ [])
 
@@ -227,10 +215,11 @@ module _ (bytes : List ℕ) (start level at : ℕ) (old new : Gathered) (s : Ele
           (elements_by_value (text_at bytes at) (sign_missing 93 (text_at bytes at) unclosed) ∙
           ap (λ o. and_then o elements_on) r.found.is)
 
-      pub elements_more : (next at' : ℕ) → IsPunctuationEnd 44 bytes after (Some next)
-          → Leaves bytes next at' (gap (text_at bytes next)) → ElementsSoFar bytes start level at' old new'
+      pub elements_more : {next at' : ℕ} → Leaves bytes next at' (gap (text_at bytes next))
+          → IsPunctuationEnd 44 bytes after (Some next)
+          → ElementsSoFar bytes start level at' old (with_elements mid elements)
       unfolding elements_on
-      elements_more next at' sign later = record {
+      elements_more {next = next} {at' = at'} later sign = record {
         got = s.got ++ element_of v ∷ [];
         told = told' ∙ ap (λ o. after_elements (elements_view s.got)
             (if_found o (λ s. and_then (elements_of (gap s.1)) (λ q. Some (element v.offset r.found.raw q.0, q.1)))
@@ -243,7 +232,7 @@ module _ (bytes : List ℕ) (start level at : ℕ) (old new : Gathered) (s : Ele
             (elements_view (s.got ++ element_of v ∷ []))
             (elements_of t)) (sym later.left);
         pushed = pushed';
-        lines = lines ∙ r.keeps.lines ∙ s.lines;
+        lines = r.keeps.lines ∙ s.lines;
         limit = limit';
         boundary = later.boundary;
         forward = omega (arith, s.forward, r.found.later, left.forward, sign.2, later.forward);
@@ -281,7 +270,8 @@ module _ (bytes : List ℕ) (start level at : ℕ) (old new : Gathered) (s : Ele
           (and_then (char_at 93 t) (λ s. Some (element v.offset r.found.raw no_elements, s.1)))) (sym left.left)
 
       pub elements_close : (result : Result ℕ Stop) → IsPunctuationEnd 44 bytes after None
-          → ClosesAt 93 why.Bracket bytes after result → ReadsElements bytes start level old new' result
+          → ClosesAt 93 why.Bracket bytes after result
+          → ReadsElements bytes start level old (with_elements mid elements) result
       unfolding after_elements
       elements_close (Ok end) sign closes = record {
         added = s.got ++ element_of v ∷ [];
@@ -289,12 +279,12 @@ module _ (bytes : List ℕ) (start level at : ℕ) (old new : Gathered) (s : Ele
             (and_then o (λ s. Some (element v.offset r.found.raw no_elements, s.1)))) closes.0
             ∙ ap (λ (es : Elements). Some (es, text_at bytes end)) (sym view');
         pushed = pushed';
-        lines = lines ∙ r.keeps.lines ∙ s.lines;
+        lines = r.keeps.lines ∙ s.lines;
         limit = limit';
         boundary = closes.1;
         later = omega (arith, s.forward, r.found.later, left.forward, closes.2);
       }
       elements_close (Err stop) sign closes =
-          subst (λ stop. ReadsElements bytes start level old new' (Err stop)) (sym closes.1)
+          subst (λ stop. ReadsElements bytes start level old (with_elements mid elements) (Err stop)) (sym closes.1)
           (last_on sign ∙ ap (λ o. after_elements (elements_view s.got)
           (and_then o (λ s. Some (element v.offset r.found.raw no_elements, s.1)))) closes.0)

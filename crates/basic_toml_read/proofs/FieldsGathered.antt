@@ -29,7 +29,7 @@ use Rattle.basic_toml_read.proofs.HolesLeadOn.{then_in, to_fields}
 use Rattle.basic_toml_read.proofs.ValueHoles.{hole_past_field}
 use Rattle.basic_toml_read.proofs.EnoughSteps.{fields_is, fields_on_is}
 use Rattle.basic_toml_read.proofs.LeftAfter.{sign_there, sign_missing}
-use Rattle.basic_toml_read.proofs.KeysTold.{misses_then}
+use Rattle.basic_toml_read.proofs.KeysTold.{misses_on}
 use Rattle.basic_toml_read.proofs.ViewsSeen.{lines_assoc, lines_none}
 
 -- the rows of an inline table up to an offset
@@ -68,6 +68,18 @@ pub level_joined_rows : (l : ℕ) (front rs : Rows)
 unfolding joined_rows
 level_joined_rows l no_rows rs = omega arith
 level_joined_rows l (row keys p v front) rs = omega (arith, level_joined_rows l front rs)
+
+-- rows that are missing after others
+pub misses_after : {whole : Option (Rows × Text)} (w : Why) (level : ℕ) (front : Rows) (o : Option (Rows × Text))
+    → whole ≡ after_rows front o → Misses w o (λ r. nesting_limit < rows_level level r.0)
+    → Misses w whole (λ r. nesting_limit < rows_level level r.0)
+unfolding after_rows
+misses_after w level front o same m =
+    misses_on w o (λ r. Some (joined_rows front r.0, r.1)) (λ r. nesting_limit < rows_level level r.0)
+    (λ r. nesting_limit < rows_level level r.0) same
+    (λ r y e h. let there : joined_rows front r.0 ≡ y.0 = cc in
+    omega (arith, h, ap (rows_level level) there, level_joined_rows level front r.0))
+    m
 
 -- lines, each of whose rows has its own parents
 pub record Whole (got : Lines) : Type 0 where
@@ -176,38 +188,18 @@ row_level_on l r rs e =
           omega (arith, ap (rows_level l) there))
     ]
 
-module _ (bytes : List ℕ) (start level at : ℕ) (old new : Gathered) (s : FieldsSoFar bytes start level at old new) where
+module _ {bytes : List ℕ} {start level at : ℕ} {old new : Gathered} (s : FieldsSoFar bytes start level at old new) where
   -- no row
   pub fields_missing : (w : Why) → Misses w (row_of (text_at bytes at)) (λ r. nesting_limit < row_level level r)
       → Misses w (fields_of (text_at bytes start)) (λ r. nesting_limit < rows_level level r.0)
-  unfolding after_rows
   fields_missing w m =
-      misses_then w (row_of (text_at bytes at)) (fields_of (text_at bytes start)) (λ r. nesting_limit < row_level level
-      r) (λ r. nesting_limit < rows_level level r.0)
-      (λ e. there ∙ ap (λ o. after_rows (lines_view s.got) (and_then o fields_on)) e)
-      (λ y e. let (q, q_is, f) =
-      then_some (and_then (row_of (text_at bytes at)) fields_on)
-      (λ r. Some (joined_rows (lines_view s.got) r.0, r.1)) y (sym there ∙ e) in
-      let (r, r_is, g) = then_some (row_of (text_at bytes at)) fields_on q q_is in
-      let same : joined_rows (lines_view s.got) q.0 ≡ y.0 = cc in (
-        r,
-        r_is,
-        λ h. omega (
-          arith,
-          h,
-          row_level_on level r q g,
-          ap (rows_level level) same,
-          level_joined_rows level (lines_view s.got) q.0,
-        ),
-      ))
-      m
-    where
-      there : fields_of (text_at bytes start)
-          ≡ after_rows (lines_view s.got) (and_then (row_of (text_at bytes at)) fields_on)
-      there = s.told ∙ ap (after_rows (lines_view s.got)) (fields_by_row (text_at bytes at))
+      misses_after w level (lines_view s.got) (and_then (row_of (text_at bytes at)) fields_on)
+      (s.told ∙ ap (after_rows (lines_view s.got)) (fields_by_row (text_at bytes at)))
+      (misses_on w (row_of (text_at bytes at)) fields_on (λ r. nesting_limit < row_level level r)
+      (λ r. nesting_limit < rows_level level r.0) refl (λ r q e h. omega (arith, h, row_level_on level r q e)) m)
 
   -- after a row
-  module _ (new' : Gathered) (end : ℕ) (r : IsRowRead bytes at level new new' end) (after : ℕ)
+  module _ {new' : Gathered} {end after : ℕ} (r : IsRowRead bytes at level new new' end)
       (left : Leaves bytes end after (after_blanks (text_at bytes end))) where
     view' : lines_view (and_lines s.got r.added)
         ≡ joined_rows (lines_view s.got) (row r.found.keys r.found.offset r.found.value no_rows)
@@ -232,10 +224,10 @@ module _ (bytes : List ℕ) (start level at : ℕ) (old new : Gathered) (s : Fie
     told' = s.told ∙ ap (after_rows (lines_view s.got)) (fields_by_row (text_at bytes at) ∙
         ap (λ o. and_then o fields_on) r.is)
 
-    pub fields_more : (next at' : ℕ) → IsPunctuationEnd 44 bytes after (Some next)
-        → Leaves bytes next at' (after_blanks (text_at bytes next)) → FieldsSoFar bytes start level at' old new'
+    pub fields_more : {next at' : ℕ} → Leaves bytes next at' (after_blanks (text_at bytes next))
+        → IsPunctuationEnd 44 bytes after (Some next) → FieldsSoFar bytes start level at' old new'
     unfolding fields_on
-    fields_more next at' sign later = record {
+    fields_more {next = next} {at' = at'} later sign = record {
       got = and_lines s.got r.added;
       whole = (whole_more s.got r.added r.found.keys r.found.offset r.found.value s.whole r.seen).0;
       told = told' ∙ ap (λ o. after_rows (lines_view s.got)

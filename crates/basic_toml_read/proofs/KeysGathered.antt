@@ -1,6 +1,6 @@
 -- The keys of a row, one by one.
 use Rattle.std.proofs.Common.{◌≡◌, ℕ, ◌+◌, ◌≤◌, List, [], ◌∷◌, ◌++◌, refl, ap, sym, ◌∙◌, arith, append_assoc}
-use Rattle.std.proofs.Common.{append-nil, map, Some, None, Ok}
+use Rattle.std.proofs.Common.{append-nil, map, Some, None, Ok, Vec, Global}
 use Rattle.std.proofs.lemmas.List.{map-append}
 use Rattle.std.specs.Str.{IsCharBoundary}
 use Rattle.basic_toml_value.specs.Nesting.{nesting_limit}
@@ -39,28 +39,29 @@ keys_start bytes at first old low b = record {
   elements = refl;
 }
 
-module _ (bytes : List ℕ) (at first offset level : ℕ) (old new : Gathered)
-    (s : KeysSoFar bytes at first offset level old new)
-    (k : Keyed) (key : ReadsKeyAt bytes offset (Ok k)) (end : ℕ)
+abbrev pub with_parents : Gathered → Vec code_keys.Key Global → Gathered
+with_parents g parents = record { alloc = g.alloc; elements = g.elements; parents = parents; rows = g.rows }
+
+module _ {bytes : List ℕ} {at first offset level : ℕ} {old new : Gathered}
+    (s : KeysSoFar bytes at first offset level old new) (k : Keyed) {end : ℕ} (key : ReadsKeyAt bytes offset (Ok k))
     (blanks : Leaves bytes k.end end (after_blanks (text_at bytes k.end))) (high : level ≤ nesting_limit) where
   -- a period and another key
-  pub keys_more : (next offset' : ℕ) (new' : Gathered) (parent : code_keys.Key) → IsPunctuationEnd 46 bytes end
-      (Some next)
-      → Leaves bytes next offset' (after_blanks (text_at bytes next))
-      → key_of parent ≡ record { offset = offset; text = key_text_bytes k.key }
-      → new'.parents.items ≡ new.parents.items ++ (parent ∷ []) → new'.rows.items ≡ new.rows.items
-      → new'.elements.items ≡ new.elements.items → KeysSoFar bytes at first offset' (level + 1) old new'
-  keys_more next offset' new' parent sign after parent_is pushed rows elements = record {
-    front = s.front ++ record { offset = offset; text = key_text_bytes k.key } ∷ [];
-    keys = told_more bytes at first offset level s.front s.keys k key end blanks high next offset' sign after;
-    parents = s.parents ++ parent ∷ [];
-    pushed = pushed ∙ ap (λ (l : List code_keys.Key). l ++ parent ∷ []) s.pushed
-        ∙ append_assoc old.parents.items s.parents (parent ∷ []);
-    seen = map-append key_of s.parents (parent ∷ [])
-        ∙ ap (λ (l : List Key). l ++ key_of parent ∷ []) s.seen ∙ ap (λ (k : Key). s.front ++ k ∷ []) parent_is;
-    rows = rows ∙ s.rows;
-    elements = elements ∙ s.elements;
-  }
+  pub keys_more : {next offset' : ℕ} → Leaves bytes next offset' (after_blanks (text_at bytes next))
+      → IsPunctuationEnd 46 bytes end (Some next) → (parents : Vec code_keys.Key Global)
+      → parents.items ≡ new.parents.items ++ record { text = k.key; offset = offset } ∷ []
+      → KeysSoFar bytes at first offset' (level + 1) old (with_parents new parents)
+  keys_more after sign parents pushed =
+      let parent : code_keys.Key = record { text = k.key; offset = offset } in
+      record {
+        front = s.front ++ record { offset = offset; text = key_text_bytes k.key } ∷ [];
+        keys = told_more s.keys k key blanks high after sign;
+        parents = s.parents ++ parent ∷ [];
+        pushed = pushed ∙ ap (λ (l : List code_keys.Key). l ++ parent ∷ []) s.pushed
+            ∙ append_assoc old.parents.items s.parents (parent ∷ []);
+        seen = map-append key_of s.parents (parent ∷ []) ∙ ap (λ (l : List Key). l ++ key_of parent ∷ []) s.seen;
+        rows = s.rows;
+        elements = s.elements;
+      }
 
   -- no period
   pub keys_last : IsPunctuationEnd 46 bytes end None
@@ -68,7 +69,7 @@ module _ (bytes : List ℕ) (at first offset level : ℕ) (old new : Gathered)
   keys_last sign = record {
     front = s.front;
     mid = text_at bytes k.end;
-    is = told_last bytes at first offset level s.front s.keys k key end blanks high sign;
+    is = told_last s.keys k key blanks high sign;
     after = blanks.left;
     over = sign_missing 46 (text_at bytes end) sign;
     parents = s.parents;

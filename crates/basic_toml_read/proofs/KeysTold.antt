@@ -36,6 +36,14 @@ misses_then Memory o o' P Q n d m = tt
 misses_then Deep o o' P Q n d m = λ y e. let (x, x_is, f) = d y e in f (m x x_is)
 misses_then _ o o' P Q n d m = n m
 
+-- so too where it goes on from what is found
+pub misses_on : {A B : Type 0} {whole : Option B} (w : Why) (o : Option A) (on : A → Option B) (P : A → Type 0)
+    (Q : B → Type 0) → whole ≡ and_then o on → ((x : A) (y : B) → on x ≡ Some y → P x → Q y) → Misses w o P
+    → Misses w whole Q
+misses_on {whole = whole} w o on P Q same high m =
+    misses_then w o whole P Q (λ e. same ∙ ap (λ o. and_then o on) e)
+    (λ y e. let (x, x_is, f) = then_some o on y (sym same ∙ e) in (x, x_is, high x y f)) m
+
 pub misses_none : {A : Type 0} (w : Why) (o : Option A) (P : A → Type 0) → o ≡ None → Misses w o P
 misses_none Memory o P e = tt
 misses_none Deep o P e = λ x f. let z : None ≡ Some x = sym e ∙ f in cc
@@ -103,7 +111,7 @@ told_start bytes at first low b =
       holes = λ there d. d;
     }
 
-module _ (bytes : List ℕ) (at first offset level : ℕ) (front : List Key)
+module _ {bytes : List ℕ} {at first offset level : ℕ} {front : List Key}
     (s : KeysTold bytes at first offset level front) where
   -- no key
   pub keys_missing : (w : Why) → MissesKey w (text_at bytes offset)
@@ -154,18 +162,18 @@ module _ (bytes : List ℕ) (at first offset level : ℕ) (front : List Key)
       → DeepKeys nesting_limit first (text_at bytes at) offset
   key_is_deep k key h = s.leads offset (deep_key_there level (text_at bytes offset) (text_at bytes k.end) h key.0)
 
-  module _ (k : Keyed) (key : ReadsKeyAt bytes offset (Ok k)) (end : ℕ)
+  module _ (k : Keyed) {end : ℕ} (key : ReadsKeyAt bytes offset (Ok k))
       (blanks : Leaves bytes k.end end (after_blanks (text_at bytes k.end))) (high : level ≤ nesting_limit) where
     here : Key
     here = record { offset = offset; text = key_text_bytes k.key }
 
     -- a period and another key
-    pub told_more : (next offset' : ℕ) → IsPunctuationEnd 46 bytes end (Some next)
-        → Leaves bytes next offset' (after_blanks (text_at bytes next))
+    pub told_more : {next offset' : ℕ} → Leaves bytes next offset' (after_blanks (text_at bytes next))
+        → IsPunctuationEnd 46 bytes end (Some next)
         → KeysTold bytes at first offset' (level + 1) (front ++ record { offset = offset; text = key_text_bytes k.key }
         ∷ [])
     unfolding here
-    told_more next offset' sign after =
+    told_more {next = next} {offset' = offset'} after sign =
         let found : char_at 46 (after_blanks (text_at bytes k.end)) ≡ Some (end, text_at bytes next) =
         ap (char_at 46) (sym blanks.left) ∙ sign_there sign.0 in
         record {

@@ -10,6 +10,7 @@ pub mod KeysGathered
 pub mod ElementsGathered
 pub mod FieldsGathered
 pub mod ValuesGathered
+pub mod HeaderBrackets
 pub mod HeadersRead
 pub mod RowsRead
 pub mod RootRead
@@ -21,6 +22,7 @@ pub mod DeepFurtherOn
 pub mod DeepStops
 pub mod NothingTooDeep
 pub mod KeyHoles
+pub mod KeysStop
 pub mod HolesLeadOn
 pub mod ValueHoles
 pub mod LineHoles

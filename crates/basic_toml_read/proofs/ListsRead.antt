@@ -18,7 +18,6 @@ use Rattle.basic_toml_read.specs.Lists.{NextAt, IsFrom}
 use Rattle.basic_toml_read.specs.Lists.{sections_from, section_seen, IsSectionRead}
 use Rattle.basic_toml_read.specs.SectionsRead.{onto, ListSoFar, IsStop, IsList, left_after}
 use Rattle.basic_toml_explain.specs.Stop.{StopsInside}
-use Rattle.basic_toml_grammar.proofs.Grammar.StringsAreRead.{then_some}
 use Rattle.basic_toml_read.specs.StopsReached.{IfDeepSection, InSectionHole}
 use Rattle.basic_toml_read.specs.StopsReached.{in_sections}
 use Rattle.basic_toml_read.specs.StopsReached.{in_text}
@@ -27,7 +26,7 @@ use Rattle.basic_toml_grammar.specs.DeepStops.{DeepSections, DeepStop}
 use Rattle.basic_toml_read.proofs.DeepStops.{deep_on}
 use Rattle.basic_toml_read.proofs.EnoughSteps.{sections_is, sections_is_none}
 use Rattle.basic_toml_read.proofs.RootRead.{some_none, highest_onto}
-use Rattle.basic_toml_read.proofs.KeysTold.{misses_then}
+use Rattle.basic_toml_read.proofs.KeysTold.{misses_on}
 
 -- sections one after another
 onto_more : (front : List Section) (s : Section) (o : Option (List Section))
@@ -74,17 +73,11 @@ module _ (bytes : List ℕ) (at : ℕ) (list : List Section) (s : ListSoFar byte
       → Misses w (section_list_of (folded bytes)) (λ sections. nesting_limit < highest_level sections)
   unfolding onto
   list_missing w m =
-      misses_then w (and_then (header_of (text_at bytes at)) sections_from) (section_list_of (folded bytes))
+      misses_on w (and_then (header_of (text_at bytes at)) sections_from) (λ sections. Some (list ++ sections))
       (λ sections. nesting_limit < highest_level sections) (λ sections. nesting_limit < highest_level sections)
-      (λ e. list_from ∙ ap (onto list) e)
-      (λ y e. let (headed, headed_is, f) =
-      then_some (and_then (header_of (text_at bytes at)) sections_from)
-      (λ sections. Some (list ++ sections)) y (sym list_from ∙ e) in
-      let joined : list ++ headed ≡ y = cc in (
-        headed,
-        headed_is,
-        λ high. omega (arith, high, ap highest_level joined, highest_onto list headed),
-      ))
+      list_from
+      (λ headed y f high. let joined : list ++ headed ≡ y = cc in
+      omega (arith, high, ap highest_level joined, highest_onto list headed))
       m
 
   -- where none is read, the text stops to be one

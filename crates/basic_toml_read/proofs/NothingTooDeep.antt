@@ -14,7 +14,7 @@ use Rattle.basic_toml_grammar.specs.DeepStops.{DeepFields, DeepRows, DeepHeader,
 use Rattle.basic_toml_grammar.specs.Reader as reader
 use Rattle.basic_toml_grammar.specs.Reader.{char_at, key_at, line_end_at}
 use Rattle.basic_toml_grammar.proofs.Grammar.GrammarIsUnambiguous.{header_same, ends_same}
-use Rattle.basic_toml_grammar.proofs.Grammar.ReaderIsSound.{sign_read, key_read, keys_read, value_read, row_read}
+use Rattle.basic_toml_grammar.proofs.Grammar.ReaderIsSound.{key_read, keys_read, value_read, row_read}
 use Rattle.basic_toml_grammar.proofs.Grammar.ReaderIsComplete.{keys_found, value_found, row_found, rows_found}
 use Rattle.basic_toml_grammar.proofs.Grammar.ReaderIsComplete.{header_found}
 use Rattle.basic_toml_grammar.proofs.Nesting.WithinTheLimit as within
@@ -26,6 +26,7 @@ use Rattle.basic_toml_read.specs.FrontOf.{keys_of, value_of, row_of, rows_of, he
 use Rattle.basic_toml_read.specs.Gathers.{IsLastKey, row_level}
 use Rattle.basic_toml_read.proofs.DeepFurtherOn.{sign_after}
 use Rattle.basic_toml_read.proofs.LeftAfter.{sign_missing}
+use Rattle.basic_toml_read.proofs.HeaderBrackets.{OneBracket, TwoBrackets}
 
 -- what is not found does not stand there
 keys_absent : {text mid : Text} {ks : List Key} → keys_of text ≡ None → IsKeys text ks mid
@@ -77,7 +78,7 @@ pub keys_there : (text : Text) (r : List Key × Text) → keys_of text ≡ Some 
 unfolding keys_of
 keys_there text r e = keys_read (suc (length text)) text r e
 
-module _ (bytes : List ℕ) (at level : ℕ) (old new : Gathered) (last : LastKey)
+module _ {bytes : List ℕ} {at level : ℕ} {old new : Gathered} {last : LastKey}
     (k : IsLastKey bytes at level old new last) where
   keys : List Key
   keys = k.front ++ (record { offset = last.offset; text = key_text_bytes last.key } ∷ [])
@@ -100,11 +101,11 @@ module _ (bytes : List ℕ) (at level : ℕ) (old new : Gathered) (last : LastKe
       (ap (char_at 46) (sym k.after) ∙ k.over)
       (ap (char_at 61) (sym k.after) ∙ sign_missing 61 (text_at bytes last.end) sign) d
 
-  pub row_value : (next start : ℕ) → IsPunctuationEnd 61 bytes last.end (Some next)
-      → Leaves bytes next start (after_blanks (text_at bytes next)) → (p : ℕ)
+  pub row_value : {next start : ℕ} → Leaves bytes next start (after_blanks (text_at bytes next))
+      → IsPunctuationEnd 61 bytes last.end (Some next) → (p : ℕ)
       → DeepRow nesting_limit level (text_at bytes at) p → DeepValue nesting_limit last.level (text_at bytes start) p
   unfolding keys
-  row_value next start sign left p d =
+  row_value {next = next} {start = start} left sign p d =
       subst (λ (t : Text). DeepValue nesting_limit last.level t p) (sym left.left)
       (subst (λ (l : ℕ). DeepValue nesting_limit l (after_blanks (text_at bytes next)) p) (sym last_level)
       (within.past_equals (keys_there (text_at bytes at) (keys, k.mid) k.is) (omega (arith, last_level, k.limit))
@@ -120,18 +121,18 @@ pub in_brace : (bytes : List ℕ) (at next level : ℕ) → IsPunctuationEnd 123
     → DeepInline nesting_limit (level + 1) at (text_at bytes next) p
 in_brace bytes at next level sign p d = within.at_brace (sign_after bytes at next 123 refl sign) d
 
-pub in_elements_too : (bytes : List ℕ) (offset at start level : ℕ) → level ≤ nesting_limit
+pub in_elements_too : {bytes : List ℕ} {at start level : ℕ} (offset : ℕ) → level ≤ nesting_limit
     → Leaves bytes at start (after_gap is_comment (text_at bytes at)) → (p : ℕ)
     → DeepArray nesting_limit level offset (text_at bytes at) p
     → DeepElements nesting_limit level (text_at bytes start) p
-in_elements_too bytes offset at start level h left p d =
+in_elements_too {level = level} offset h left p d =
     subst (λ (t : Text). DeepElements nesting_limit level t p) (sym left.left) (within.in_array h d)
 
-pub in_fields_too : (bytes : List ℕ) (offset at start level : ℕ) → level ≤ nesting_limit
+pub in_fields_too : {bytes : List ℕ} {at start level : ℕ} (offset : ℕ) → level ≤ nesting_limit
     → Leaves bytes at start (after_blanks (text_at bytes at)) → (p : ℕ)
     → DeepInline nesting_limit level offset (text_at bytes at) p
     → DeepFields nesting_limit level (text_at bytes start) p
-in_fields_too bytes offset at start level h left p d =
+in_fields_too {level = level} offset h left p d =
     subst (λ (t : Text). DeepFields nesting_limit level t p) (sym left.left) (within.in_inline h d)
 
 -- an element
@@ -196,25 +197,15 @@ line_row e n (deep.after_empty f d) = absurd (within.no_end e f)
 line_row e n (deep.later_row w h f d) = absurd (row_absent n w)
 
 -- keys in a header
-pub table_keys_there : (bytes : List ℕ) (at inner start : ℕ)
-    → char_at 91 (text_at bytes at) ≡ Some (at, text_at bytes inner) → IsPunctuationEnd 91 bytes inner None
-    → Leaves bytes inner start (after_blanks (text_at bytes inner)) → (p : ℕ)
-    → DeepHeader nesting_limit (text_at bytes at) p
-    → DeepKeys nesting_limit 2 (text_at bytes start) p
-table_keys_there bytes at inner start sign none left p d =
-    subst (λ (t : Text). DeepKeys nesting_limit 2 t p) (sym left.left)
-    (within.table_keys (sign_read 91 (text_at bytes at)
-    (at, text_at bytes inner) sign) (sign_missing 91 (text_at bytes inner) none) d)
+pub table_keys_there : {bytes : List ℕ} {at start : ℕ} → OneBracket bytes at start → (p : ℕ)
+    → DeepHeader nesting_limit (text_at bytes at) p → DeepKeys nesting_limit 2 (text_at bytes start) p
+table_keys_there b p d =
+    subst (λ (t : Text). DeepKeys nesting_limit 2 t p) (sym b.left.left) (within.table_keys b.bracket b.none d)
 
-pub array_keys_there : (bytes : List ℕ) (at inner first start : ℕ)
-    → char_at 91 (text_at bytes at) ≡ Some (at, text_at bytes inner) → IsPunctuationEnd 91 bytes inner (Some first)
-    → Leaves bytes first start (after_blanks (text_at bytes first)) → (p : ℕ)
-    → DeepHeader nesting_limit (text_at bytes at) p
-    → DeepKeys nesting_limit 2 (text_at bytes start) p
-array_keys_there bytes at inner first start sign two left p d =
-    subst (λ (t : Text). DeepKeys nesting_limit 2 t p) (sym left.left)
-    (within.array_keys (sign_read 91 (text_at bytes at)
-    (at, text_at bytes inner) sign) (sign_after bytes inner first 91 refl two) d)
+pub array_keys_there : {bytes : List ℕ} {at start : ℕ} → TwoBrackets bytes at start → (p : ℕ)
+    → DeepHeader nesting_limit (text_at bytes at) p → DeepKeys nesting_limit 2 (text_at bytes start) p
+array_keys_there b p d =
+    subst (λ (t : Text). DeepKeys nesting_limit 2 t p) (sym b.left.left) (within.array_keys b.bracket b.second d)
 
 -- sections
 pub its_header : {p : ℕ} {text : Text} → header_of (after_blanks text) ≡ None → DeepSections nesting_limit text p

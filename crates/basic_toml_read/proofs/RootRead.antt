@@ -31,13 +31,13 @@ use Rattle.basic_toml_read.proofs.HolesLeadOn.{then_in, moved_in, hole_on, to_ro
 use Rattle.basic_toml_read.proofs.HolesLeadOn.{over_root}
 use Rattle.basic_toml_grammar.specs.Grammar.{IsRows}
 use Rattle.basic_toml_grammar.specs.DeepStops as deep
-use Rattle.basic_toml_grammar.specs.DeepStops.{DeepRows, DeepSections, DeepStop}
+use Rattle.basic_toml_grammar.specs.DeepStops.{DeepRows, DeepStop}
 use Rattle.basic_toml_grammar.proofs.Nesting.WithinTheLimit as within
 use Rattle.basic_toml_read.proofs.DeepStops.{deep_on, is_missed}
 use Rattle.basic_toml_read.proofs.NothingTooDeep.{root_rows}
 use Rattle.basic_toml_grammar.proofs.Grammar.ReaderIsSound.{rows_read}
 use Rattle.basic_toml_read.proofs.EnoughSteps.{list_is}
-use Rattle.basic_toml_read.proofs.KeysTold.{misses_then}
+use Rattle.basic_toml_read.proofs.KeysTold.{misses_on}
 
 root_onto : (rs : Rows) (headed : List Section) → with_root rs headed ≡ with_root rs [] ++ headed
 root_onto no_rows headed = refl
@@ -83,24 +83,18 @@ module _ (bytes : List ℕ) (start : ℕ) (start_is : start ≡ start_of bytes) 
   pub root_missing : (w : Why) → Misses w (rows_of (text_at bytes start)) (λ r. nesting_limit < rows_level 1 r.0)
       → Misses w (section_list_of (folded bytes)) (λ sections. nesting_limit < highest_level sections)
   root_missing w m =
-      misses_then w (rows_of (text_at bytes start)) (section_list_of (folded bytes)) (λ r. nesting_limit < rows_level 1
-      r.0) (λ sections. nesting_limit < highest_level sections)
-      (λ e. list_by ∙ ap (λ o. and_then o
-      (λ rows. and_then (sections_of rows.1) (λ headed. Some (with_root rows.0 headed)))) e)
-      (λ y e. let (rows, rows_is, f) =
-      then_some (rows_of (text_at bytes start))
-      (λ rows. and_then (sections_of rows.1) (λ headed. Some (with_root rows.0 headed))) y (sym list_by ∙ e) in
-      let (headed, headed_is, same) = then_some (sections_of rows.1) (λ headed. Some (with_root rows.0 headed)) y f in
-      let there : with_root rows.0 headed ≡ y = cc in (
-        rows,
-        rows_is,
-        λ h. omega (
-          arith,
-          h,
-          ap highest_level (sym (root_onto rows.0 headed) ∙ there),
-          highest_onto (with_root rows.0 []) headed,
-          (root_level rows.0).0,
-        ),
+      misses_on w (rows_of (text_at bytes start))
+      (λ rows. and_then (sections_of rows.1) (λ headed. Some (with_root rows.0 headed)))
+      (λ r. nesting_limit < rows_level 1 r.0) (λ sections. nesting_limit < highest_level sections) list_by
+      (λ rows y f h. let (headed, headed_is, same) =
+      then_some (sections_of rows.1) (λ headed. Some (with_root rows.0 headed)) y f in
+      let there : with_root rows.0 headed ≡ y = cc in
+      omega (
+        arith,
+        h,
+        ap highest_level (sym (root_onto rows.0 headed) ∙ there),
+        highest_onto (with_root rows.0 []) headed,
+        (root_level rows.0).0,
       ))
       m
 
@@ -179,8 +173,8 @@ module _ (bytes : List ℕ) (start : ℕ) (start_is : start ≡ start_of bytes) 
     missed = root_missing stop.why missed;
     inside = inside;
     more = gap_stopped old mid stop passed;
-    deep = deep_on {A = Unit {0}} (DeepRows nesting_limit 1 (text_at bytes start)) (DeepStop nesting_limit (folded bytes))
-        stop (Err stop) refl
+    deep = deep_on {A = Unit {0}} (DeepRows nesting_limit 1 (text_at bytes start))
+        (DeepStop nesting_limit (folded bytes)) stop (Err stop) refl
         (λ p d. deep.root (subst (λ (n : ℕ). DeepRows nesting_limit 1 (text_at bytes n) p) start_is d))
         (λ other. root_deep (is_missed stop.why (rows_of (text_at bytes start)) (λ r. nesting_limit < rows_level 1 r.0)
         other missed)) is_deep;

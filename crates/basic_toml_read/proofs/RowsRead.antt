@@ -11,18 +11,20 @@ use Rattle.basic_toml_tokens.proofs.RestsArePartsOfText.{over_at_end}
 use Rattle.basic_toml_tokens.proofs.StepIsTheFold.{text_end}
 use Rattle.basic_toml_explain.specs.declared.stop.Stop.{Stop}
 use Rattle.basic_toml_explain.specs.declared.stop.Why.{Why}
+use Rattle.basic_toml_explain.specs.declared.stop.Why.TheVariants.{Newline}
 use Rattle.basic_toml_read.specs.declared.values.Gathered.{Gathered}
 use Rattle.basic_toml_grammar.specs.Sections.{Key, Raw, Rows, no_rows, row}
 use Rattle.basic_toml_grammar.specs.Entering.{and_then}
-use Rattle.basic_toml_grammar.specs.Grammar.{after_comment_by, IsRow}
+use Rattle.basic_toml_grammar.specs.Grammar.{EndsLine, IsRow, after_comment_by}
 use Rattle.basic_toml_grammar.specs.Levels.{rows_level}
 use Rattle.basic_toml_grammar.specs.Reader as reader
 use Rattle.basic_toml_grammar.specs.Reader.{char_at, key_at, if_found, end_of, line_end_at}
 use Rattle.basic_toml_read.specs.FrontOf.{keys_of, value_of, rows_of, row_of}
-use Rattle.basic_toml_read.specs.AtPlace.{Leaves}
+use Rattle.basic_toml_read.specs.AtPlace.{EndsAt, Leaves}
 use Rattle.basic_toml_read.specs.StopsAt.{Misses}
 use Rattle.basic_toml_read.specs.Gathers.{Lines, no_lines, and_lines, lines_of, lines_view, row_level, IsRowRead}
-use Rattle.basic_toml_read.specs.Lists.{EndsOrStops, EndsLineAt, AreRowsRead, IsGap}
+use Rattle.basic_toml_read.specs.Gathers.{ReadsRow}
+use Rattle.basic_toml_read.specs.Lists.{AreRowsRead, EndsLineAt, EndsOrStops, IsGap, PassesGaps, ReadsRows}
 use Rattle.basic_toml_grammar.proofs.Grammar.StringsAreRead.{then_some}
 use Rattle.basic_toml_grammar.specs.DeepStops.{DeepRows, this_row, after_empty, later_row, DeepRow}
 use Rattle.basic_toml_grammar.proofs.Grammar.ReaderIsSound.{row_read, line_end_read}
@@ -31,14 +33,16 @@ use Rattle.basic_toml_read.proofs.NothingTooDeep.{line_row}
 use Rattle.basic_toml_read.proofs.EnoughSteps.{keys_is, row_is, rows_is, rows_is_none}
 use Rattle.basic_toml_read.proofs.LeftAfter.{sign_there, sign_missing, gap_past_line, gap_over, gap_ends_line}
 use Rattle.basic_toml_read.proofs.LeftAfter.{gap_has_no_bracket, line_of, no_comment}
-use Rattle.basic_toml_read.proofs.KeysTold.{misses_then, misses_none, stopped}
+use Rattle.basic_toml_read.proofs.KeysTold.{misses_none, misses_on, stopped}
 use Rattle.basic_toml_read.proofs.ViewsSeen.{lines_assoc, lines_none}
 use Rattle.basic_toml_grammar.specs.Holes.{Hole, HoleInRows}
-use Rattle.basic_toml_read.specs.StopsReached.{InHole, LeadsTo, in_row, in_rows}
+use Rattle.basic_toml_read.specs.StopsReached.{AtDeep, IfDeep, InHole, LeadsTo, in_row, in_rows}
 use Rattle.basic_toml_read.proofs.HolesLeadOn.{stays_in, then_in, moved_in, to_row, over_empty, over_row_line}
-use Rattle.basic_toml_read.proofs.HolesLeadOn.{newline_stop}
+use Rattle.basic_toml_read.proofs.HolesLeadOn.{newline_stop, stops_on}
+use Rattle.basic_toml_read.proofs.DeepStops.{at_deep, at_none, is_missed}
 use Rattle.basic_toml_read.proofs.FieldsGathered.{joined_rows, joined_rows_none, after_rows, after_rows_more}
-use Rattle.basic_toml_read.proofs.FieldsGathered.{after_no_rows, level_joined_rows, Whole, whole_none, whole_more}
+use Rattle.basic_toml_read.proofs.FieldsGathered.{after_no_rows, level_joined_rows, misses_after, Whole, whole_none}
+use Rattle.basic_toml_read.proofs.FieldsGathered.{whole_more}
 
 pub record RowsSoFar (bytes : List ℕ) (start level at : ℕ) (old new : Gathered) : Type 0 where
   pub got : Lines
@@ -74,9 +78,6 @@ rows_start bytes start level old b = record {
   backs = λ p d. d;
   holes = stays_in (in_rows (text_at bytes start));
 }
-
-some_first : (a b : Rows × Text) → Some a ≡ Some b → a.0 ≡ b.0
-some_first a b e = let same : a ≡ b = cc in ap (λ (p : Rows × Text). p.0) same
 
 joined_some : (front : Rows) (keys : List Key) (p : ℕ) (v : Raw) → joined_rows front (row keys p v no_rows) ≡ no_rows
     → ⊥
@@ -121,7 +122,45 @@ no_row_at_hash text s =
     (λ s. and_then (keys_of (after_blanks s.1)) (λ keys. Some (k.0 ∷ keys.0, keys.1)))
     (Some (k.0 ∷ [], k.1)))) (ap key_at s))
 
-module _ (bytes : List ℕ) (start level at : ℕ) (old new : Gathered) (s : RowsSoFar bytes start level at old new) where
+pub sign_stands : (c : ℕ) (bytes : List ℕ) (at : ℕ) (o : Option ℕ) → IsPunctuationEnd c bytes at o → true ≡ is_some o
+    → (next : ℕ) × IsPunctuationEnd c bytes at (Some next)
+sign_stands c bytes at None s e = cc
+sign_stands c bytes at (Some next) s e = (next, s)
+
+pub sign_lacks : (c : ℕ) (bytes : List ℕ) (at : ℕ) (o : Option ℕ) → IsPunctuationEnd c bytes at o → false ≡ is_some o
+    → IsPunctuationEnd c bytes at None
+sign_lacks c bytes at None s e = s
+sign_lacks c bytes at (Some next) s e = cc
+
+-- a line, and where the blanks at its front end
+pub record IsLine (bytes : List ℕ) (at front : ℕ) : Type 0 where
+  pub first : ℕ × ℕ
+  pub line : Text
+  pub is : text_at bytes at ≡ first ∷ line
+  pub blanks : Leaves bytes at front (after_blanks (text_at bytes at))
+
+pub line_here : (bytes : List ℕ) (at front : ℕ) → IsUtf8 bytes → IsCharBoundary bytes at → at < length bytes
+    → Leaves bytes at front (after_blanks (text_at bytes at)) → IsLine bytes at front
+line_here bytes at front whole here h blanks = go (text_at bytes at) refl
+  where
+    go : (t : Text) → text_at bytes at ≡ t → IsLine bytes at front
+    go [] e = absurd (omega (arith, over_at_end bytes at whole here e))
+    go (x ∷ line) e = record { first = x; line = line; is = e; blanks = blanks }
+
+-- one without a header
+pub record NoHeader (bytes : List ℕ) (at front : ℕ) : Type 0 where
+  pub line : IsLine bytes at front
+  pub none : IsPunctuationEnd 91 bytes front None
+
+-- what reading rows answers, but that a stop is inside the text
+pub record RowsAnswered (bytes : List ℕ) (start level : ℕ) (old new : Gathered) (result : Result (Option ℕ) Stop)
+    : Type 0 where
+  pub read : ReadsRows bytes start level old new result
+  pub gaps : PassesGaps bytes start old new result
+  pub deep : IfDeep (DeepRows nesting_limit level (text_at bytes start)) result
+  pub hole : InHole (in_rows (text_at bytes start)) bytes result
+
+module _ {bytes : List ℕ} {start level at : ℕ} {old new : Gathered} (s : RowsSoFar bytes start level at old new) where
   -- the end of the text
   pub rows_over : length bytes ≤ at → AreRowsRead bytes start level old new None
   unfolding after_rows
@@ -140,30 +179,30 @@ module _ (bytes : List ℕ) (start level at : ℕ) (old new : Gathered) (s : Row
   }
 
   -- a line
-  module _ (x : ℕ × ℕ) (line : Text) (line_is : text_at bytes at ≡ x ∷ line) (front : ℕ)
-      (blanks : Leaves bytes at front (after_blanks (text_at bytes at))) where
+  module _ {front : ℕ} (l : IsLine bytes at front) where
     -- a row that is too deep
-    pub row_is_deep : (p : ℕ) → DeepRow nesting_limit level (text_at bytes front) p
+    row_is_deep : (p : ℕ) → DeepRow nesting_limit level (text_at bytes front) p
         → DeepRows nesting_limit level (text_at bytes start) p
-    row_is_deep p d = s.leads p (this_row (subst (λ (t : Text). DeepRow nesting_limit level t p) blanks.left d))
+    row_is_deep p d = s.leads p (this_row (subst (λ (t : Text). DeepRow nesting_limit level t p) l.blanks.left d))
 
     row_on : reader.Assigned → Option (Rows × Text)
     row_on r = and_then (line_end_at r.rest)
         (λ next. and_then (rows_of next) (λ rows. Some (row r.keys r.offset r.value rows.0, rows.1)))
 
-    here : after_blanks (x ∷ line) ≡ text_at bytes front
-    here = sym (blanks.left ∙ ap after_blanks line_is)
+    here : after_blanks (l.first ∷ l.line) ≡ text_at bytes front
+    here = sym (l.blanks.left ∙ ap after_blanks l.is)
 
     by_line : (o : Option (ℕ × Text)) → char_at 91 (text_at bytes front) ≡ o → rows_of (text_at bytes at)
-        ≡ if_found o (λ s. Some (no_rows, x ∷ line))
-        (if_found (line_end_at (x ∷ line)) (λ next. rows_of next) (and_then (row_of (text_at bytes front)) row_on))
+        ≡ if_found o (λ s. Some (no_rows, l.first ∷ l.line))
+        (if_found (line_end_at (l.first ∷ l.line)) (λ next. rows_of next)
+        (and_then (row_of (text_at bytes front)) row_on))
     unfolding row_on
     by_line o e =
-        ap rows_of line_is ∙ rows_is x line
-        ∙ ap (λ t. if_found (char_at 91 t) (λ s. Some (no_rows, x ∷ line))
-        (if_found (line_end_at (x ∷ line)) (λ next. rows_of next) (and_then (row_of t) row_on))) here
-        ∙ ap (λ o. if_found o (λ s. Some (no_rows, x ∷ line))
-        (if_found (line_end_at (x ∷ line)) (λ next. rows_of next)
+        ap rows_of l.is ∙ rows_is l.first l.line
+        ∙ ap (λ t. if_found (char_at 91 t) (λ s. Some (no_rows, l.first ∷ l.line))
+        (if_found (line_end_at (l.first ∷ l.line)) (λ next. rows_of next) (and_then (row_of t) row_on))) here
+        ∙ ap (λ o. if_found o (λ s. Some (no_rows, l.first ∷ l.line))
+        (if_found (line_end_at (l.first ∷ l.line)) (λ next. rows_of next)
         (and_then (row_of (text_at bytes front)) row_on))) e
 
     -- a header
@@ -172,27 +211,27 @@ module _ (bytes : List ℕ) (start level at : ℕ) (old new : Gathered) (s : Row
     unfolding after_rows
     rows_bracket next sign = record {
       added = s.got;
-      rest = x ∷ line;
+      rest = l.first ∷ l.line;
       is = s.told ∙ ap (after_rows (lines_view s.got)) (by_line (Some (front, text_at bytes next)) (sign_there sign.0))
-          ∙ ap (λ (rs : Rows). Some (rs, x ∷ line)) (joined_rows_none (lines_view s.got));
+          ∙ ap (λ (rs : Rows). Some (rs, l.first ∷ l.line)) (joined_rows_none (lines_view s.got));
       pushed = s.pushed;
       some = s.some;
       elements = s.elements;
       limit = s.limit;
       ends = (
-        x,
-        line,
+        l.first,
+        l.line,
         refl,
         sym here,
-        blanks.boundary,
+        l.blanks.boundary,
         λ none. let z : None ≡ Some (front, text_at bytes next) = sym none ∙ sign_there sign.0 in cc,
       );
-      from = omega (arith, s.forward, blanks.forward);
+      from = omega (arith, s.forward, l.blanks.forward);
     }
 
     -- a header is no gap
     pub bracket_no_gap : (next : ℕ) → IsPunctuationEnd 91 bytes front (Some next) → IsGap (text_at bytes start) → ⊥
-    bracket_no_gap next sign g = gap_has_no_bracket (text_at bytes at) (sym blanks.left ∙ sign.0) (s.gaps g).0
+    bracket_no_gap next sign g = gap_has_no_bracket (text_at bytes at) (sym l.blanks.left ∙ sign.0) (s.gaps g).0
 
     module _ (none : IsPunctuationEnd 91 bytes front None) where
       by_end_of_line : (o : Option Text) → line_end_at (text_at bytes at) ≡ o → rows_of (text_at bytes at)
@@ -200,132 +239,130 @@ module _ (bytes : List ℕ) (start level at : ℕ) (old new : Gathered) (s : Row
       by_end_of_line o e =
           by_line None (sign_missing 91 (text_at bytes front) none)
           ∙ ap (λ o. if_found o (λ next. rows_of next) (and_then (row_of (text_at bytes front)) row_on))
-          (ap line_end_at (sym line_is) ∙ e)
+          (ap line_end_at (sym l.is) ∙ e)
 
-      -- a gap that reaches the end of a line
-      gap_here : IsGap (text_at bytes start) → IsGap (line_of (text_at bytes at))
-      gap_here g = gap_past_line (text_at bytes at) ∙ (s.gaps g).0
-
-      -- an empty line
-      pub rows_empty : (next : ℕ) → line_end_at (text_at bytes at) ≡ Some (text_at bytes next)
-          → IsCharBoundary bytes next → at < next → RowsSoFar bytes start level next old new
-      rows_empty next e boundary less = record {
-        got = s.got;
-        whole = s.whole;
-        told = s.told ∙ ap (after_rows (lines_view s.got)) (by_end_of_line (Some (text_at bytes next)) e);
-        pushed = s.pushed;
-        some = s.some;
-        elements = s.elements;
-        limit = s.limit;
-        boundary = boundary;
-        forward = omega (arith, s.forward);
-        gaps = λ g. (gap_over (line_of (text_at bytes at)) (text_at bytes next) e (gap_here g), (s.gaps g).1);
-        leads = λ p d. s.leads p (subst (λ (t : Text). DeepRows nesting_limit level t p) (sym line_is)
-            (after_empty (line_end_read (x ∷ line) (text_at bytes next) (ap line_end_at (sym line_is) ∙ e)) d));
-        backs = λ p d. within.past_empty_line
-            (line_end_read (x ∷ line) (text_at bytes next) (ap line_end_at (sym line_is) ∙ e))
-            (subst (λ (t : Text). DeepRows nesting_limit level t p) line_is (s.backs p d));
-        holes = then_in (in_rows (text_at bytes next)) (in_rows (x ∷ line)) (in_rows (text_at bytes start))
-            (over_empty (line_end_read (x ∷ line) (text_at bytes next) (ap line_end_at (sym line_is) ∙ e)))
-            (then_in (in_rows (x ∷ line)) (in_rows (text_at bytes at)) (in_rows (text_at bytes start))
-            (moved_in in_rows (x ∷ line) (text_at bytes at) (sym line_is)) s.holes);
-      }
+      -- an empty line, or one of a comment
+      pub rows_empty : (end next : ℕ) → line_end_at (text_at bytes at) ≡ end_of (text_at bytes end) → front ≤ end
+          → EndsAt bytes end (Some next) → RowsSoFar bytes start level next old new
+      rows_empty end next same h ends =
+          let e = same ∙ ends.0 in
+          let over : EndsLine is_comment (l.first ∷ l.line) (text_at bytes next) =
+          line_end_read (l.first ∷ l.line) (text_at bytes next) (ap line_end_at (sym l.is) ∙ e) in record {
+            got = s.got;
+            whole = s.whole;
+            told = s.told ∙ ap (after_rows (lines_view s.got)) (by_end_of_line (Some (text_at bytes next)) e);
+            pushed = s.pushed;
+            some = s.some;
+            elements = s.elements;
+            limit = s.limit;
+            boundary = ends.1;
+            forward = omega (arith, s.forward, l.blanks.forward);
+            gaps = λ g. (
+              gap_over (line_of (text_at bytes at)) (text_at bytes next) e
+                  (gap_past_line (text_at bytes at) ∙ (s.gaps g).0),
+              (s.gaps g).1,
+            );
+            leads = λ p d. s.leads p
+                (subst (λ (t : Text). DeepRows nesting_limit level t p) (sym l.is) (after_empty over d));
+            backs = λ p d. within.past_empty_line over
+                (subst (λ (t : Text). DeepRows nesting_limit level t p) l.is (s.backs p d));
+            holes = then_in (in_rows (text_at bytes next)) (in_rows (l.first ∷ l.line)) (in_rows (text_at bytes start))
+                (over_empty over)
+                (then_in (in_rows (l.first ∷ l.line)) (in_rows (text_at bytes at)) (in_rows (text_at bytes start))
+                (moved_in in_rows (l.first ∷ l.line) (text_at bytes at) (sym l.is)) s.holes);
+          }
 
       module _ (goes_on : line_end_at (text_at bytes at) ≡ None) where
         -- a line that goes on is no gap
-        pub rows_no_gap : IsGap (text_at bytes start) → ⊥
+        rows_no_gap : IsGap (text_at bytes start) → ⊥
         rows_no_gap g = gap_ends_line (text_at bytes at) goes_on (s.gaps g).0
 
         -- the holes of a row here
-        pub row_holes : IsPunctuationEnd 35 bytes front None
+        row_holes : IsPunctuationEnd 35 bytes front None
             → LeadsTo (in_row (text_at bytes front) Hole.after_line) (in_rows (text_at bytes start))
         row_holes hash =
             then_in (in_row (text_at bytes front) Hole.after_line)
             (in_row (after_blanks (text_at bytes at)) Hole.after_line) (in_rows (text_at bytes start))
             (moved_in (λ t. in_row t Hole.after_line) (text_at bytes front) (after_blanks (text_at bytes at))
-            blanks.left)
+            l.blanks.left)
             (then_in (in_row (after_blanks (text_at bytes at)) Hole.after_line) (in_rows (text_at bytes at))
             (in_rows (text_at bytes start))
-            (to_row (text_at bytes at) (ap (char_at 91) (sym blanks.left) ∙ sign_missing 91 (text_at bytes front) none)
-            (ap (char_at 35) (sym blanks.left) ∙ sign_missing 35 (text_at bytes front) hash) goes_on) s.holes)
+            (to_row (text_at bytes at)
+            (ap (char_at 91) (sym l.blanks.left) ∙ sign_missing 91 (text_at bytes front) none)
+            (ap (char_at 35) (sym l.blanks.left) ∙ sign_missing 35 (text_at bytes front) hash) goes_on) s.holes)
 
         -- what is too deep is so in the row here, where it is none
-        pub deep_in_row : row_of (text_at bytes front) ≡ None → (p : ℕ)
+        deep_in_row : row_of (text_at bytes front) ≡ None → (p : ℕ)
             → DeepRows nesting_limit level (text_at bytes start) p
             → DeepRow nesting_limit level (text_at bytes front) p
         deep_in_row e p d =
-            subst (λ (t : Text). DeepRow nesting_limit level t p) (sym blanks.left)
-            (line_row goes_on (ap row_of (sym blanks.left) ∙ e) (s.backs p d))
-
-        -- nothing is too deep in a comment that goes on
-        pub none_in_comment : (next : ℕ) → IsPunctuationEnd 35 bytes front (Some next) → (p : ℕ)
-            → DeepRows nesting_limit level (text_at bytes start) p → ⊥
-        none_in_comment next hash p d =
-            within.no_row_line (sym blanks.left ∙ hash.0) (λ mid e. within.no_end goes_on e) refl (s.backs p d)
+            subst (λ (t : Text). DeepRow nesting_limit level t p) (sym l.blanks.left)
+            (line_row goes_on (ap row_of (sym l.blanks.left) ∙ e) (s.backs p d))
 
         told' : rows_of (text_at bytes start)
             ≡ after_rows (lines_view s.got) (and_then (row_of (text_at bytes front)) row_on)
         told' = s.told ∙ ap (after_rows (lines_view s.got)) (by_end_of_line None goes_on)
 
         -- a comment that goes on
-        pub comment_unended : (next : ℕ) → IsPunctuationEnd 35 bytes front (Some next) → (w : Why)
-            → Misses w (rows_of (text_at bytes start)) (λ r. nesting_limit < rows_level level r.0)
-        unfolding after_rows
-        comment_unended next hash w =
-            misses_none w (rows_of (text_at bytes start)) (λ r. nesting_limit < rows_level level r.0)
-            (told' ∙ ap (λ o. after_rows (lines_view s.got) (and_then o row_on))
-            (no_row_at_hash (text_at bytes front) hash.0))
-
-        pub comment_hole : (next : ℕ) → IsPunctuationEnd 35 bytes front (Some next) → (end : ℕ)
+        pub comment_stops : (next end : ℕ) → IsPunctuationEnd 35 bytes front (Some next)
             → line_of (text_at bytes at) ≡ text_at bytes end → (stop : Stop) → EndsOrStops bytes end (Err stop)
             → (result : Result (Option ℕ) Stop) → IsErrAnd result (λ s. s ≡ stop)
-            → InHole (in_rows (text_at bytes start)) bytes result
-        comment_hole next hash end same stop e result err =
-            stopped (λ r. InHole (in_rows (text_at bytes start)) bytes r) result stop err
-            (newline_stop (in_rows (text_at bytes start)) stop.why (text_at bytes stop.at) (ap (λ (s : Stop). s.why)
-            e.1)
-            (s.holes.on Hole.after_line (text_at bytes stop.at)
-            (subst (λ (t : Text). HoleInRows (text_at bytes at) Hole.after_line t) (same ∙ sym there)
-            (HoleInRows.after_comment (sym blanks.left ∙ hash.0)))) (ap end_of there ∙ e.0))
-          where
-            there : text_at bytes stop.at ≡ text_at bytes end
-            there = ap (λ (s : Stop). text_at bytes s.at) e.1
+            → RowsAnswered bytes start level old new result
+        unfolding after_rows
+        comment_stops next end hash same stop e result err =
+            let there : text_at bytes stop.at ≡ text_at bytes end = ap (λ (s : Stop). text_at bytes s.at) e.1 in
+            let why : stop.why ≡ Newline = ap (λ (s : Stop). s.why) e.1 in
+            stopped (λ r. RowsAnswered bytes start level old new r) result stop err (record {
+              read = misses_none stop.why (rows_of (text_at bytes start)) (λ r. nesting_limit < rows_level level r.0)
+                  (told' ∙ ap (λ o. after_rows (lines_view s.got) (and_then o row_on))
+                  (no_row_at_hash (text_at bytes front) hash.0));
+              gaps = λ g. absurd (rows_no_gap g);
+              deep = at_none (DeepRows nesting_limit level (text_at bytes start)) stop.why stop.at (λ e. cc)
+                  (λ other p d. within.no_row_line (sym l.blanks.left ∙ hash.0) (λ mid e. within.no_end goes_on e) refl
+                  (s.backs p d));
+              hole = newline_stop (in_rows (text_at bytes start)) stop.why (text_at bytes stop.at) why
+                  (s.holes.on Hole.after_line (text_at bytes stop.at)
+                  (subst (λ (t : Text). HoleInRows (text_at bytes at) Hole.after_line t) (same ∙ sym there)
+                  (HoleInRows.after_comment (sym l.blanks.left ∙ hash.0)))) (ap end_of there ∙ e.0);
+            })
 
         -- no row
-        pub rows_missing : (w : Why) → Misses w (row_of (text_at bytes front)) (λ r. nesting_limit < row_level level r)
+        rows_missing : (w : Why) → Misses w (row_of (text_at bytes front)) (λ r. nesting_limit < row_level level r)
             → Misses w (rows_of (text_at bytes start)) (λ r. nesting_limit < rows_level level r.0)
-        unfolding after_rows row_on
+        unfolding row_on
         rows_missing w m =
-            misses_then w (row_of (text_at bytes front)) (rows_of (text_at bytes start))
-            (λ r. nesting_limit < row_level level r) (λ r. nesting_limit < rows_level level r.0)
-            (λ e. told' ∙ ap (λ o. after_rows (lines_view s.got) (and_then o row_on)) e)
-            (λ y e. let (q, q_is, f) =
-            then_some (and_then (row_of (text_at bytes front)) row_on)
-            (λ r. Some (joined_rows (lines_view s.got) r.0, r.1)) y (sym told' ∙ e) in
-            let (r, r_is, g) = then_some (row_of (text_at bytes front)) row_on q q_is in
-            let (next, next_is, i) =
+            misses_after w level (lines_view s.got) (and_then (row_of (text_at bytes front)) row_on) told'
+            (misses_on w (row_of (text_at bytes front)) row_on (λ r. nesting_limit < row_level level r)
+            (λ r. nesting_limit < rows_level level r.0) refl
+            (λ r q e h. let (next, next_is, f) =
             then_some (line_end_at r.rest)
-            (λ next. and_then (rows_of next) (λ rows. Some (row r.keys r.offset r.value rows.0, rows.1))) q g in
+            (λ next. and_then (rows_of next) (λ rows. Some (row r.keys r.offset r.value rows.0, rows.1))) q e in
             let (rows, rows_is, same) =
-            then_some (rows_of next) (λ rows. Some (row r.keys r.offset r.value rows.0, rows.1)) q i in
-            let there : row r.keys r.offset r.value rows.0 ≡ q.0 =
-            some_first (row r.keys r.offset r.value rows.0, rows.1) q same in
-            let joined : joined_rows (lines_view s.got) q.0 ≡ y.0 =
-            some_first (joined_rows (lines_view s.got) q.0, q.1) y f in (
-              r,
-              r_is,
-              λ h. omega (
-                arith,
-                h,
-                ap (rows_level level) there,
-                ap (rows_level level) joined,
-                level_joined_rows level (lines_view s.got) q.0,
-              ),
-            ))
-            m
+            then_some (rows_of next) (λ rows. Some (row r.keys r.offset r.value rows.0, rows.1)) q f in
+            let there : row r.keys r.offset r.value rows.0 ≡ q.0 = cc in
+            omega (arith, h, ap (rows_level level) there))
+            m)
+
+        pub row_stops : (new' : Gathered) → IsPunctuationEnd 35 bytes front None → (stop : Stop)
+            → ReadsRow bytes front level new new' (Err stop)
+            → AtDeep (DeepRow nesting_limit level (text_at bytes front)) stop.why stop.at
+            → InHole {A = ℕ} (in_row (text_at bytes front) Hole.after_line) bytes (Err stop)
+            → (result : Result (Option ℕ) Stop) → IsErrAnd result (λ s. s ≡ stop)
+            → RowsAnswered bytes start level old new' result
+        row_stops new' hash stop missed deep hole result err =
+            stopped (λ r. RowsAnswered bytes start level old new' r) result stop err (record {
+              read = rows_missing stop.why missed;
+              gaps = λ g. absurd (rows_no_gap g);
+              deep = at_deep (DeepRow nesting_limit level (text_at bytes front))
+                  (DeepRows nesting_limit level (text_at bytes start)) stop.why stop.at (λ p d. row_is_deep p d)
+                  (λ other. deep_in_row (is_missed stop.why (row_of (text_at bytes front))
+                  (λ r. nesting_limit < row_level level r) other missed)) deep;
+              hole = stops_on (in_row (text_at bytes front) Hole.after_line) (in_rows (text_at bytes start))
+                  (row_holes hash) stop.why (text_at bytes stop.at) hole;
+            })
 
         -- a row
-        module _ (new' : Gathered) (after : ℕ) (r : IsRowRead bytes front level new new' after) where
+        module _ {new' : Gathered} {after : ℕ} (r : IsRowRead bytes front level new new' after) where
           by_end : rows_of (text_at bytes start)
               ≡ after_rows (lines_view s.got) (and_then (line_end_at (text_at bytes after)) (λ next.
               and_then (rows_of next) (λ rows. Some (row r.found.keys r.found.offset r.found.value rows.0, rows.1))))
@@ -339,31 +376,28 @@ module _ (bytes : List ℕ) (start level at : ℕ) (old new : Gathered) (s : Row
               (text_at bytes after)
           row_stands =
               subst (λ (t : Text). IsRow is_comment t r.found.keys r.found.offset r.found.value
-              (text_at bytes after)) blanks.left
+              (text_at bytes after)) l.blanks.left
               (subst (λ (t : Text). IsRow is_comment (text_at bytes front) r.found.keys r.found.offset
               r.found.value t) r.rest (row_there (text_at bytes front) r.found r.is))
 
-          pub unended_hole : (stop : Stop) → EndsLineAt bytes after (Err stop) → (result : Result (Option ℕ) Stop)
-              → IsErrAnd result (λ s. s ≡ stop) → InHole (in_rows (text_at bytes start)) bytes result
-          unended_hole stop e result err =
-              stopped (λ r. InHole (in_rows (text_at bytes start)) bytes r) result stop err
-              (newline_stop (in_rows (text_at bytes start)) stop.why (text_at bytes stop.at) e.1
-              (s.holes.on Hole.after_line (text_at bytes stop.at)
-              (subst (λ (t : Text). HoleInRows (text_at bytes at) Hole.after_line t) (sym e.2)
-              (HoleInRows.after_row row_stands))) (ap end_of e.2 ∙ e.0))
-
-          pub none_unended : (stop : Stop) → EndsLineAt bytes after (Err stop) → (p : ℕ)
-              → DeepRows nesting_limit level (text_at bytes start) p → ⊥
-          none_unended stop e p d = within.last_row_line row_stands r.limit e.0 (s.backs p d)
-
-          pub rows_unended : (stop : Stop) → EndsLineAt bytes after (Err stop)
-              → Misses stop.why (rows_of (text_at bytes start)) (λ r. nesting_limit < rows_level level r.0)
+          pub unended_stops : (stop : Stop) → EndsLineAt bytes after (Err stop) → (result : Result (Option ℕ) Stop)
+              → IsErrAnd result (λ s. s ≡ stop) → RowsAnswered bytes start level old new' result
           unfolding after_rows
-          rows_unended stop e =
-              misses_none stop.why (rows_of (text_at bytes start)) (λ r. nesting_limit < rows_level level r.0)
-              (by_end ∙ ap (λ o. after_rows (lines_view s.got)
-              (and_then o (λ next. and_then (rows_of next)
-              (λ rows. Some (row r.found.keys r.found.offset r.found.value rows.0, rows.1))))) e.0)
+          unended_stops stop e result err =
+              let why : stop.why ≡ Newline = e.1 in
+              stopped (λ r. RowsAnswered bytes start level old new' r) result stop err (record {
+                read = misses_none stop.why (rows_of (text_at bytes start)) (λ r. nesting_limit < rows_level level r.0)
+                    (by_end ∙ ap (λ o. after_rows (lines_view s.got)
+                    (and_then o (λ next. and_then (rows_of next)
+                    (λ rows. Some (row r.found.keys r.found.offset r.found.value rows.0, rows.1))))) e.0);
+                gaps = λ g. absurd (rows_no_gap g);
+                deep = at_none (DeepRows nesting_limit level (text_at bytes start)) stop.why stop.at (λ e. cc)
+                    (λ other p d. within.last_row_line row_stands r.limit e.0 (s.backs p d));
+                hole = newline_stop (in_rows (text_at bytes start)) stop.why (text_at bytes stop.at) why
+                    (s.holes.on Hole.after_line (text_at bytes stop.at)
+                    (subst (λ (t : Text). HoleInRows (text_at bytes at) Hole.after_line t) (sym e.2)
+                    (HoleInRows.after_row row_stands))) (ap end_of e.2 ∙ e.0);
+              })
 
           pub rows_more : (next : ℕ) → EndsLineAt bytes after (Ok next) → RowsSoFar bytes start level next old new'
           rows_more next e =
@@ -390,7 +424,7 @@ module _ (bytes : List ℕ) (start level at : ℕ) (old new : Gathered) (s : Row
                   r.limit,
                 );
                 boundary = e.1;
-                forward = omega (arith, s.forward, blanks.forward, r.later, e.2);
+                forward = omega (arith, s.forward, l.blanks.forward, r.later, e.2);
                 gaps = λ g. absurd (rows_no_gap g);
                 leads = λ p d. s.leads p (later_row row_stands r.limit
                     (line_end_read (text_at bytes after) (text_at bytes next) e.0) d);
@@ -400,30 +434,3 @@ module _ (bytes : List ℕ) (start level at : ℕ) (old new : Gathered) (s : Row
                     (in_rows (text_at bytes start))
                     (over_row_line row_stands (line_end_read (text_at bytes after) (text_at bytes next) e.0)) s.holes;
               }
-
--- a line takes at least one character
-pub line_later : (bytes : List ℕ) (at front next : ℕ) → at < length bytes → at ≤ front
-    → (front < next) ⊎ (length bytes ≤ next) → at < next
-line_later bytes at front next h k l = go l
-  where
-    go : (front < next) ⊎ (length bytes ≤ next) → at < next
-    go (inl m) = omega arith
-    go (inr m) = omega arith
-
-pub some_line : (bytes : List ℕ) (at : ℕ) → IsUtf8 bytes → IsCharBoundary bytes at → at < length bytes → (x : ℕ × ℕ)
-    × (line : Text) × (text_at bytes at ≡ x ∷ line)
-some_line bytes at whole here h = go (text_at bytes at) refl
-  where
-    go : (t : Text) → text_at bytes at ≡ t → (x : ℕ × ℕ) × (line : Text) × (text_at bytes at ≡ x ∷ line)
-    go [] e = absurd (omega (arith, over_at_end bytes at whole here e))
-    go (x ∷ line) e = (x, line, e)
-
-pub sign_stands : (c : ℕ) (bytes : List ℕ) (at : ℕ) (o : Option ℕ) → IsPunctuationEnd c bytes at o → true ≡ is_some o
-    → (next : ℕ) × IsPunctuationEnd c bytes at (Some next)
-sign_stands c bytes at None s e = cc
-sign_stands c bytes at (Some next) s e = (next, s)
-
-pub sign_lacks : (c : ℕ) (bytes : List ℕ) (at : ℕ) (o : Option ℕ) → IsPunctuationEnd c bytes at o → false ≡ is_some o
-    → IsPunctuationEnd c bytes at None
-sign_lacks c bytes at None s e = s
-sign_lacks c bytes at (Some next) s e = cc

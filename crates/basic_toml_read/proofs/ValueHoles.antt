@@ -31,7 +31,7 @@ use Rattle.basic_toml_read.proofs.KeyHoles.{nothing_fits}
 use Rattle.basic_toml_read.proofs.LeftAfter.{sign_missing}
 
 -- in a row, after its keys
-module _ (bytes : List ℕ) (at level : ℕ) (old new : Gathered) (last : LastKey)
+module _ {bytes : List ℕ} {at level : ℕ} {old new : Gathered} {last : LastKey}
     (k : IsLastKey bytes at level old new last) (end : Hole) where
   keys_here : List Key
   keys_here = k.front ++ (record { offset = last.offset; text = key_text_bytes last.key } ∷ [])
@@ -47,11 +47,11 @@ module _ (bytes : List ℕ) (at level : ℕ) (old new : Gathered) (last : LastKe
         (sign_missing 61 (text_at bytes last.end) none) k.over (λ c. refl);
   }
 
-  pub to_its_value : (next start : ℕ) → IsPunctuationEnd 61 bytes last.end (Some next)
-      → Leaves bytes next start (after_blanks (text_at bytes next))
+  pub to_its_value : {next start : ℕ} → Leaves bytes next start (after_blanks (text_at bytes next))
+      → IsPunctuationEnd 61 bytes last.end (Some next)
       → LeadsTo (in_value (text_at bytes start) end) (in_row (text_at bytes at) end)
   unfolding keys_here
-  to_its_value next start sign left =
+  to_its_value {next = next} {start = start} left sign =
       then_in (in_value (text_at bytes start) end) (in_value (after_blanks (text_at bytes next)) end)
       (in_row (text_at bytes at) end)
       (moved_in (λ t. in_value t end) (text_at bytes start) (after_blanks (text_at bytes next)) left.left)

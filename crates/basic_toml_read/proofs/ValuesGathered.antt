@@ -33,7 +33,7 @@ use Rattle.basic_toml_read.specs.FrontOf.{keys_of, value_of, elements_of, fields
 use Rattle.basic_toml_read.specs.AtPlace.{Leaves}
 use Rattle.basic_toml_read.specs.SectionView.{key_of, elements_view, rows_seen}
 use Rattle.basic_toml_read.specs.StopsAt.{Misses, ReadsStringAt, ReadsWordAt, MissesString, MissesWord}
-use Rattle.basic_toml_read.specs.Gathers.{Lines, lines_of, lines_view, IsLastKey, row_level, IsRowRead, Keeps}
+use Rattle.basic_toml_read.specs.Gathers.{Lines, lines_view, IsLastKey, row_level, IsRowRead, Keeps}
 use Rattle.basic_toml_read.specs.Gathers.{IsValueRead, IsTableTaken}
 use Rattle.basic_toml_read.specs.Gathers.{AreElementsRead, IsArrayRead, AreFieldsRead, IsInlineRead, ReadsValue}
 use Rattle.basic_toml_read.specs.Gathers.{ReadsArray, ReadsInline}
@@ -42,21 +42,21 @@ use Rattle.basic_toml_grammar.proofs.Grammar.ReaderIsComplete.{gap}
 use Rattle.basic_toml_read.proofs.EnoughSteps.{value_is, row_is}
 use Rattle.basic_toml_read.proofs.LeftAfter.{sign_there, sign_missing}
 use Rattle.basic_toml_read.proofs.ViewsSeen.{row_before, array_of}
-use Rattle.basic_toml_read.proofs.KeysTold.{misses_then}
+use Rattle.basic_toml_read.proofs.KeysTold.{misses_on}
+use Rattle.basic_toml_read.proofs.ElementsGathered.{with_elements}
 
 -- a row without keys
 pub keys_missed : (level : ℕ) (text : Text) (w : Why)
     → Misses w (keys_of text) (λ keys. nesting_limit < level + length keys.0 - 1)
     → Misses w (row_of text) (λ r. nesting_limit < row_level level r)
 keys_missed level text w m =
-    misses_then w (keys_of text) (row_of text) (λ keys. nesting_limit < level + length keys.0 - 1)
-    (λ r. nesting_limit < row_level level r) (λ e. row_is text ∙ ap (λ o. and_then o on) e)
-    (λ y e. let (keys, keys_is, f) = then_some (keys_of text) on y (sym (row_is text) ∙ e) in
-    let (s, s_is, g) = then_some (char_at 61 (after_blanks keys.1)) (value_on keys.0) y f in
+    misses_on w (keys_of text) on (λ keys. nesting_limit < level + length keys.0 - 1)
+    (λ r. nesting_limit < row_level level r) (row_is text)
+    (λ keys y f h. let (s, s_is, g) = then_some (char_at 61 (after_blanks keys.1)) (value_on keys.0) y f in
     let (v, v_is, same) = then_some (value_of (after_blanks s.1))
     (λ v. Some (record { keys = keys.0; offset = v.offset; value = v.value; rest = v.rest })) y g in
     let there : record { keys = keys.0; offset = v.offset; value = v.value; rest = v.rest } ≡ y = cc in
-    (keys, keys_is, λ h. subst (λ r. nesting_limit < row_level level r) there (omega arith)))
+    subst (λ r. nesting_limit < row_level level r) there (omega arith))
     m
   where
     value_on : List Key → ℕ × Text → Option reader.Assigned
@@ -67,7 +67,19 @@ keys_missed level text w m =
     on keys = and_then (char_at 61 (after_blanks keys.1)) (value_on keys.0)
 
 -- a row
-module _ (bytes : List ℕ) (at level : ℕ) (old mid : Gathered) (last : LastKey)
+abbrev row_of_value : LastKey → ℕ → Valued → Row
+row_of_value last parents v = roll-Row (record {
+  key = last.key;
+  offset = last.offset;
+  parents = parents;
+  start = v.offset;
+  value = v.value;
+})
+
+abbrev pub with_rows : Gathered → Vec Row Global → Gathered
+with_rows g rows = record { alloc = g.alloc; elements = g.elements; parents = g.parents; rows = rows }
+
+module _ {bytes : List ℕ} {at level : ℕ} {old mid : Gathered} {last : LastKey}
     (k : IsLastKey bytes at level old mid last) where
   all_keys : List Key
   all_keys = k.front ++ record { offset = last.offset; text = key_text_bytes last.key } ∷ []
@@ -96,8 +108,8 @@ module _ (bytes : List ℕ) (at level : ℕ) (old mid : Gathered) (last : LastKe
         ∷ []),
   )
 
-  module _ (next at' : ℕ) (sign : IsPunctuationEnd 61 bytes last.end (Some next))
-      (left : Leaves bytes next at' (after_blanks (text_at bytes next))) where
+  module _ {next at' : ℕ} (left : Leaves bytes next at' (after_blanks (text_at bytes next)))
+      (sign : IsPunctuationEnd 61 bytes last.end (Some next)) where
     row_by_value : row_of (text_at bytes at) ≡ and_then (value_of (text_at bytes at')) (λ v. Some (assigned all_keys v))
     row_by_value = row_by (Some (last.end, text_at bytes next)) (sign_there sign.0) ∙
         ap (λ t. and_then (value_of t) (λ v. Some (assigned all_keys v))) (sym left.left)
@@ -107,13 +119,10 @@ module _ (bytes : List ℕ) (at level : ℕ) (old mid : Gathered) (last : LastKe
         → Misses w (row_of (text_at bytes at)) (λ r. nesting_limit < row_level level r)
     unfolding assigned
     value_missing w m =
-        misses_then w (value_of (text_at bytes at')) (row_of (text_at bytes at))
-        (λ v. nesting_limit < value_level last.level v.value) (λ r. nesting_limit < row_level level r)
-        (λ e. row_by_value ∙ ap (λ o. and_then o (λ v. Some (assigned all_keys v))) e)
-        (λ y e. let (v, v_is, f) =
-        then_some (value_of (text_at bytes at')) (λ v. Some (assigned all_keys v)) y (sym row_by_value ∙ e) in
-        let same : assigned all_keys v ≡ y = cc in
-        (v, v_is, λ h. subst (λ r. nesting_limit < row_level level r) same (high v h)))
+        misses_on w (value_of (text_at bytes at')) (λ v. Some (assigned all_keys v))
+        (λ v. nesting_limit < value_level last.level v.value) (λ r. nesting_limit < row_level level r) row_by_value
+        (λ v y f h. let same : assigned all_keys v ≡ y = cc in
+        subst (λ r. nesting_limit < row_level level r) same (high v h))
         m
       where
         high : (v : reader.Valued) → nesting_limit < value_level last.level v.value
@@ -122,51 +131,36 @@ module _ (bytes : List ℕ) (at level : ℕ) (old mid : Gathered) (last : LastKe
             let e : level + length all_keys - 1 ≡ last.level = omega (arith, length_keys, k.level_is) in
             omega (arith, h, ap (λ n. value_level n v.value) e)
 
-    pub row_there : (new mid' : Gathered) (v : Valued) (n : ℕ) → IsValueRead bytes at' last.level mid mid' v
-        → n ≡ last.level - level → new.parents.items ≡ mid'.parents.items
-        → new.rows.items ≡ mid'.rows.items ++ (roll-Row (record {
-          key = last.key;
-          offset = last.offset;
-          parents = n;
-          start = v.offset;
-          value = v.value;
-        }) ∷ [])
-        → new.elements.items ≡ mid'.elements.items
-        → IsRowRead bytes at level old new v.end
+    pub row_there : {mid' : Gathered} {v : Valued} → IsValueRead bytes at' last.level mid mid' v
+        → (rows : Vec Row Global) → rows.items ≡ mid'.rows.items ++ row_of_value last (last.level - level) v ∷ []
+        → IsRowRead bytes at level old (with_rows mid' rows) v.end
     unfolding assigned all_keys
-    row_there new mid' v n r n_is parents pushed elements = record {
-      found = assigned all_keys (record { offset = v.offset; value = r.found.raw; rest = text_at bytes v.end });
-      is = row_by_value ∙ ap (λ o. and_then o (λ v. Some (assigned all_keys v))) r.found.is;
-      rest = refl;
-      added = record { parents = k.parents; rows = made ∷ [] };
-      pushed =
-          let keys : new.parents.items ≡ old.parents.items ++ k.parents =
-          parents ∙ ap (λ (l : Lines). l.parents) r.keeps.lines ∙ k.pushed in
-          let rows : new.rows.items ≡ old.rows.items ++ made ∷ [] =
-          pushed ∙ ap (λ (l : List Row). l ++ made ∷ []) (ap (λ (l : Lines). l.rows) r.keeps.lines ∙ k.rows) in
-          cc;
-      seen = λ rest. row_before last.key last.offset n v.offset v.value r.found.raw k.parents rest r.found.seen count
-          ∙ ap (λ (ks : List Key). row (ks ++ record { offset = last.offset; text = key_text_bytes last.key } ∷ [])
-          v.offset r.found.raw (lines_view rest)) k.seen;
-      elements = elements ∙ r.keeps.elements ∙ k.elements;
-      limit =
-          let e : level + length all_keys - 1 ≡ last.level = omega (arith, length_keys, k.level_is) in
-          omega (arith, r.limit, k.limit, ap (λ n. value_level n r.found.raw) e);
-      boundary = r.found.boundary;
-      later = omega (arith, k.later, sign.2, left.forward, r.found.later);
-    }
-      where
-        made : Row
-        made = roll-Row (record {
-          key = last.key;
-          offset = last.offset;
-          parents = n;
-          start = v.offset;
-          value = v.value;
-        })
-
-        count : n ≡ length k.parents
-        count = omega (arith, n_is, k.level_is, ap (λ (ks : List Key). length ks) k.seen, length-map k.parents key_of)
+    row_there {v = v} r rows pushed =
+        let n = last.level - level in
+        let made = row_of_value last n v in
+        record {
+          found = assigned all_keys (record { offset = v.offset; value = r.found.raw; rest = text_at bytes v.end });
+          is = row_by_value ∙ ap (λ o. and_then o (λ v. Some (assigned all_keys v))) r.found.is;
+          rest = refl;
+          added = record { parents = k.parents; rows = made ∷ [] };
+          pushed =
+              let keys = ap (λ (l : Lines). l.parents) r.keeps.lines ∙ k.pushed in
+              let own = pushed ∙ ap (λ (l : List Row). l ++ made ∷ [])
+              (ap (λ (l : Lines). l.rows) r.keeps.lines ∙ k.rows) in
+              cc;
+          seen =
+              let count : n ≡ length k.parents = omega
+              (arith, k.level_is, ap (λ (ks : List Key). length ks) k.seen, length-map k.parents key_of) in
+              λ rest. row_before last.key last.offset n v.offset v.value r.found.raw k.parents rest r.found.seen count
+              ∙ ap (λ (ks : List Key). row (ks ++ record { offset = last.offset; text = key_text_bytes last.key } ∷ [])
+              v.offset r.found.raw (lines_view rest)) k.seen;
+          elements = r.keeps.elements ∙ k.elements;
+          limit =
+              let e : level + length all_keys - 1 ≡ last.level = omega (arith, length_keys, k.level_is) in
+              omega (arith, r.limit, k.limit, ap (λ n. value_level n r.found.raw) e);
+          boundary = r.found.boundary;
+          later = omega (arith, k.later, sign.2, left.forward, r.found.later);
+        }
 
 -- a value, by its first character
 value_by_bracket : (bytes : List ℕ) (at next : ℕ) → IsPunctuationEnd 91 bytes at (Some next)
@@ -218,17 +212,12 @@ array_value bytes at next level old new (Ok v) sign a = record {
   keeps = a.keeps;
 }
 array_value bytes at next level old new (Err stop) sign m =
-    misses_then stop.why (elements_of (gap (text_at bytes next))) (value_of (text_at bytes at))
+    misses_on stop.why (elements_of (gap (text_at bytes next)))
+    (λ r. Some (record { offset = at; value = Raw.array r.0; rest = r.1 }))
     (λ r. (nesting_limit < level + 1) ⊎ (nesting_limit < elements_level (level + 1) r.0))
-    (λ v. nesting_limit < value_level level v.value)
-    (λ e. value_by_bracket bytes at next sign
-    ∙ ap (λ o. and_then o (λ r. Some (record { offset = at; value = Raw.array r.0; rest = r.1 }))) e)
-    (λ y e. let (r, r_is, f) =
-    then_some (elements_of (gap (text_at bytes next)))
-    (λ r. Some (record { offset = at; value = Raw.array r.0; rest = r.1 })) y
-    (sym (value_by_bracket bytes at next sign) ∙ e) in
-    let same : record { offset = at; value = Raw.array r.0; rest = r.1 } ≡ y = cc in
-    (r, r_is, λ h. subst (λ (v : reader.Valued). nesting_limit < value_level level v.value) same (high r.0 h)))
+    (λ v. nesting_limit < value_level level v.value) (value_by_bracket bytes at next sign)
+    (λ r y f h. let same : record { offset = at; value = Raw.array r.0; rest = r.1 } ≡ y = cc in
+    subst (λ (v : reader.Valued). nesting_limit < value_level level v.value) same (high r.0 h))
     m
   where
     high : (es : Elements) → (nesting_limit < level + 1) ⊎ (nesting_limit < elements_level (level + 1) es)
@@ -254,16 +243,13 @@ inline_value bytes at next level old new (Ok v) none sign a = record {
   keeps = a.keeps;
 }
 inline_value bytes at next level old new (Err stop) none sign m =
-    let is = value_by_others bytes at (Some (at, text_at bytes next)) none (sign_there sign.0) in
-    misses_then stop.why (fields_of (after_blanks (text_at bytes next))) (value_of (text_at bytes at))
+    misses_on stop.why (fields_of (after_blanks (text_at bytes next)))
+    (λ r. Some (record { offset = at; value = Raw.inline r.0; rest = r.1 }))
     (λ r. (nesting_limit < level + 1) ⊎ (nesting_limit < rows_level (level + 1) r.0))
     (λ v. nesting_limit < value_level level v.value)
-    (λ e. is ∙ ap (λ o. and_then o (λ r. Some (record { offset = at; value = Raw.inline r.0; rest = r.1 }))) e)
-    (λ y e. let (r, r_is, f) =
-    then_some (fields_of (after_blanks (text_at bytes next)))
-    (λ r. Some (record { offset = at; value = Raw.inline r.0; rest = r.1 })) y (sym is ∙ e) in
-    let same : record { offset = at; value = Raw.inline r.0; rest = r.1 } ≡ y = cc in
-    (r, r_is, λ h. subst (λ (v : reader.Valued). nesting_limit < value_level level v.value) same (high r.0 h)))
+    (value_by_others bytes at (Some (at, text_at bytes next)) none (sign_there sign.0))
+    (λ r y f h. let same : record { offset = at; value = Raw.inline r.0; rest = r.1 } ≡ y = cc in
+    subst (λ (v : reader.Valued). nesting_limit < value_level level v.value) same (high r.0 h))
     m
   where
     high : (rs : Rows) → (nesting_limit < level + 1) ⊎ (nesting_limit < rows_level (level + 1) rs)
@@ -375,15 +361,15 @@ word_value_here bytes at level old (Err stop) none none' no_string m = go stop.w
     go _ m = absurd m
 
 -- arrays and inline tables, whole
-pub array_whole : (bytes : List ℕ) (offset at start level end : ℕ) (old mid new : Gathered)
-    (kept : Vec Element Global) → level ≤ nesting_limit
+pub array_whole : {bytes : List ℕ} {at start level end n : ℕ} {old mid : Gathered} (offset : ℕ) → level ≤ nesting_limit
     → Leaves bytes at start (gap (text_at bytes at)) → AreElementsRead bytes start level old mid end
-    → kept.items ≡ drop (length old.elements.items) mid.elements.items
-    → new.elements.items ≡ take (length old.elements.items) mid.elements.items → lines_of new ≡ lines_of mid
-    → IsArrayRead bytes offset at level old new (record { offset = offset; value = code.Array kept; end = end })
-array_whole bytes offset at start level end old mid new kept low left r kept_is rest_is lines =
-    let items : kept.items ≡ r.added = kept_is ∙ ap (drop (length old.elements.items)) r.pushed ∙
-    drop-append_seam old.elements.items r.added in
+    → n ≡ length old.elements.items → (kept elements : Vec Element Global) → kept.items ≡ drop n mid.elements.items
+    → elements.items ≡ take n mid.elements.items
+    → IsArrayRead bytes offset at level old (with_elements mid elements)
+    (record { offset = offset; value = code.Array kept; end = end })
+array_whole {old = old} {mid = mid} offset low left r counted kept elements kept_is rest_is =
+    let items : kept.items ≡ r.added = kept_is ∙ ap (λ n. drop n mid.elements.items) counted
+    ∙ ap (drop (length old.elements.items)) r.pushed ∙ drop-append_seam old.elements.items r.added in
     record {
       elements = elements_view r.added;
       seen = array_of kept ∙ ap (λ (l : List Element). Raw.array (elements_view l)) items;
@@ -391,20 +377,22 @@ array_whole bytes offset at start level end old mid new kept low left r kept_is 
       offset_is = refl;
       limit = (low, r.limit);
       keeps = record {
-        elements = rest_is ∙ ap (take (length old.elements.items)) r.pushed ∙
-            take-append_seam old.elements.items r.added;
-        lines = lines ∙ r.lines;
+        elements = rest_is ∙ ap (λ n. take n mid.elements.items) counted
+            ∙ ap (take (length old.elements.items)) r.pushed ∙ take-append_seam old.elements.items r.added;
+        lines = r.lines;
       };
       boundary = r.boundary;
       later = omega (arith, left.forward, r.later);
     }
 
-pub inline_whole : (bytes : List ℕ) (offset at start level end : ℕ) (old mid new : Gathered) (value : code.Raw)
-    → level ≤ nesting_limit
-    → Leaves bytes at start (after_blanks (text_at bytes at)) → AreFieldsRead bytes start level old mid end
-    → IsTableTaken mid new (length old.parents.items) (length old.rows.items) value
+pub inline_whole : {bytes : List ℕ} {at start level end n m : ℕ} {old mid new : Gathered} {value : code.Raw}
+    (offset : ℕ) → level ≤ nesting_limit → Leaves bytes at start (after_blanks (text_at bytes at))
+    → AreFieldsRead bytes start level old mid end → n ≡ length old.parents.items → m ≡ length old.rows.items
+    → IsTableTaken mid new n m value
     → IsInlineRead bytes offset at level old new (record { offset = offset; value = value; end = end })
-inline_whole bytes offset at start level end old mid new value low left r taken =
+inline_whole {old = old} {mid = mid} {new = new} {value = value} offset low left r parents_counted rows_counted whole =
+    let taken : IsTableTaken mid new (length old.parents.items) (length old.rows.items) value =
+    rw (← parents_counted, ← rows_counted) whole in
     record {
       rows = lines_view r.added;
       seen = taken.seen
