@@ -1,9 +1,9 @@
 -- What headers make, by the trie of the sections: a table that a header names or passes through, and an array.
-use Rattle.std.proofs.Common.{◌≡◌, ◌⊎◌, inl, inr, ℕ, zero, suc, Bool, true, false, cond, List, [], ◌∷◌, ◌++◌, refl, ap}
+use Rattle.std.proofs.Common.{◌≡◌, ◌⊎◌, inl, inr, ℕ, zero, suc, Bool, true, false, List, [], ◌∷◌, ◌++◌, refl, ap}
 use Rattle.std.proofs.Common.{sym, ◌∙◌, subst, map, length, drop, Option, Some, None}
 use Rattle.std.specs.Prelude.{◌&&◌, ◌||◌, if◌then◌else◌}
 use Rattle.std.specs.List.{list_any}
-use Rattle.std.proofs.lemmas.Bool.{false≢true, and_parts, and_from, or_cases, or_left, or_right}
+use Rattle.std.proofs.lemmas.Bool.{false≢true, and_parts, and_from, or_cases, or_left, or_right, cases_Bool}
 use Rattle.basic_toml_grammar.specs.Sections.{Rows, Section}
 use Rattle.basic_toml_grammar.specs.Steps.{Step, key, number, Path, step_eq, begins, path_eq}
 use Rattle.basic_toml_grammar.specs.RowClash.{has_row_clash}
@@ -12,7 +12,7 @@ use Rattle.basic_toml_grammar.specs.Placed.{Placed, step_into, adds_element, pat
 use Rattle.basic_toml_grammar.specs.Marks.{MarkKind, passed, by_latest, named, added, dotted, valued, Mark, mark}
 use Rattle.basic_toml_grammar.specs.Marks.{marks, all_marks}
 use Rattle.basic_toml_grammar.specs.Nodes.{is_number, is_made, is_array}
-use Rattle.basic_toml_grammar.specs.Standing.{Standing, table, array, value, fits, taken, standing_at, take_all}
+use Rattle.basic_toml_grammar.specs.Standing.{Standing, table, array, fits, taken, standing_at, take_all}
 use Rattle.basic_toml_grammar.specs.Entering.{enter_all}
 use Rattle.basic_toml_grammar.proofs.AmongElements.{Among, first, next, among_left, among_right, among_either}
 use Rattle.basic_toml_grammar.proofs.Clash.EnteringAccepts.{enter_all_grows}
@@ -27,111 +27,61 @@ use Rattle.basic_toml_grammar.proofs.Naming.WhereHeadersStop.{is_header}
 use Rattle.basic_toml_grow.proofs.ItemsStand.{stands_array}
 use Rattle.basic_toml_tree.specs.Outer.{stands_made}
 
--- what a mark leaves, whatever comes later
+-- what a mark leaves, whatever comes later: a table that a header passed or named, and an array with an element
+abbrev of_table : Option Standing → Bool
+of_table (Some (table p n d)) = p || n
+of_table o = false
+
+abbrev of_array : Option Standing → Bool
+of_array (Some (array (suc n))) = true
+of_array o = false
+
 abbrev keeps : MarkKind → Option Standing → Bool
-keeps by_latest o = true
-keeps passed (Some (table p n d)) = p
-keeps named (Some (table p n d)) = n
-keeps dotted (Some (table p n d)) = d
-keeps added (Some (array (suc n))) = true
-keeps (valued v) (Some value) = true
-keeps k o = false
+keeps passed o = of_table o
+keeps named o = of_table o
+keeps added o = of_array o
+keeps k o = true
 
-kept_table : (k m : MarkKind) (p n d : Bool) → fits m (Some (table p n d)) ≡ true → keeps k (Some (table p n d)) ≡ true
-    → keeps k (Some (taken m (Some (table p n d)))) ≡ true
-kept_table by_latest m p n d f h = refl
-kept_table added m p n d f h = absurd (false≢true h)
-kept_table (valued v) m p n d f h = absurd (false≢true h)
-kept_table passed passed p n d f h = refl
-kept_table passed named p n d f h = h
-kept_table passed dotted p n d f h = h
-kept_table passed by_latest p n d f h = h
-kept_table passed added p n d f h = absurd (false≢true f)
-kept_table passed (valued v) p n d f h = absurd (false≢true f)
-kept_table named passed p n d f h = h
-kept_table named named p n d f h = refl
-kept_table named dotted p n d f h = h
-kept_table named by_latest p n d f h = h
-kept_table named added p n d f h = absurd (false≢true f)
-kept_table named (valued v) p n d f h = absurd (false≢true f)
-kept_table dotted passed p n d f h = h
-kept_table dotted named p n d f h = h
-kept_table dotted dotted p n d f h = refl
-kept_table dotted by_latest p n d f h = h
-kept_table dotted added p n d f h = absurd (false≢true f)
-kept_table dotted (valued v) p n d f h = absurd (false≢true f)
+table_stays : (o : Option Standing) (m : MarkKind) → fits m o ≡ true → of_table o ≡ true
+    → of_table (Some (taken m o)) ≡ true
+table_stays (Some (table p n d)) passed f h = refl
+table_stays (Some (table p n d)) named f h = or_right p true refl
+table_stays (Some (table p n d)) dotted f h = h
+table_stays (Some (table p n d)) by_latest f h = h
+table_stays (Some (table p n d)) m f h = absurd (false≢true f)
+table_stays o m f h = absurd (false≢true h)
 
-kept_array : (k m : MarkKind) (n : ℕ) → fits m (Some (array n)) ≡ true → keeps k (Some (array n)) ≡ true
-    → keeps k (Some (taken m (Some (array n)))) ≡ true
-kept_array by_latest m n f h = refl
-kept_array passed m n f h = absurd (false≢true h)
-kept_array named m n f h = absurd (false≢true h)
-kept_array dotted m n f h = absurd (false≢true h)
-kept_array (valued v) m n f h = absurd (false≢true h)
-kept_array added m zero f h = absurd (false≢true h)
-kept_array added added (suc n) f h = refl
-kept_array added by_latest (suc n) f h = refl
-kept_array added passed (suc n) f h = absurd (false≢true f)
-kept_array added named (suc n) f h = absurd (false≢true f)
-kept_array added dotted (suc n) f h = absurd (false≢true f)
-kept_array added (valued v) (suc n) f h = absurd (false≢true f)
-
-no_value : (m : MarkKind) → fits m (Some value) ≡ false
-no_value passed = refl
-no_value by_latest = refl
-no_value named = refl
-no_value added = refl
-no_value dotted = refl
-no_value (valued v) = refl
-
-none_kept : (k : MarkKind) (s : Standing) → keeps k None ≡ true → keeps k (Some s) ≡ true
-none_kept by_latest s h = refl
-none_kept passed s h = absurd (false≢true h)
-none_kept named s h = absurd (false≢true h)
-none_kept added s h = absurd (false≢true h)
-none_kept dotted s h = absurd (false≢true h)
-none_kept (valued v) s h = absurd (false≢true h)
+array_stays : (o : Option Standing) (m : MarkKind) → fits m o ≡ true → of_array o ≡ true
+    → of_array (Some (taken m o)) ≡ true
+array_stays (Some (array (suc n))) added f h = refl
+array_stays (Some (array (suc n))) by_latest f h = refl
+array_stays (Some (array (suc n))) m f h = absurd (false≢true f)
+array_stays o m f h = absurd (false≢true h)
 
 kept_on : (k m : MarkKind) (o : Option Standing) → fits m o ≡ true → keeps k o ≡ true → keeps k (Some (taken m o)) ≡ true
-kept_on k m None f h = none_kept k (taken m None) h
-kept_on k m (Some (table p n d)) f h = kept_table k m p n d f h
-kept_on k m (Some (array n)) f h = kept_array k m n f h
-kept_on k m (Some value) f h = absurd (false≢true (sym (no_value m) ∙ f))
+kept_on passed m o f h = table_stays o m f h
+kept_on named m o f h = table_stays o m f h
+kept_on added m o f h = array_stays o m f h
+kept_on k m o f h = refl
 
 kept_new : (k : MarkKind) (o : Option Standing) → keeps k (Some (taken k o)) ≡ true
-kept_new by_latest o = refl
-kept_new passed None = refl
 kept_new passed (Some (table p n d)) = refl
-kept_new passed (Some (array n)) = refl
-kept_new passed (Some value) = refl
-kept_new named None = refl
-kept_new named (Some (table p n d)) = refl
-kept_new named (Some (array n)) = refl
-kept_new named (Some value) = refl
-kept_new dotted None = refl
-kept_new dotted (Some (table p n d)) = refl
-kept_new dotted (Some (array n)) = refl
-kept_new dotted (Some value) = refl
-kept_new added None = refl
-kept_new added (Some (table p n d)) = refl
+kept_new named (Some (table p n d)) = or_right p true refl
 kept_new added (Some (array n)) = refl
-kept_new added (Some value) = refl
-kept_new (valued v) o = refl
+kept_new k o = refl
 
 abbrev Keeps : List Mark → Type 0
 Keeps st = (p : Path) (k : MarkKind) → Among (mark p k) st → keeps k (standing_at st p) ≡ true
 
 keeps_more : (m : Mark) (st : List Mark) → Keeps st → fits m.kind (standing_at st m.path) ≡ true → Keeps (m ∷ st)
 keeps_more m st h f p k first = rw (paths_same p) (kept_new k (standing_at st p))
-keeps_more m st h f p k (next a) = go (path_eq m.path p) refl
-  where
-    go : (b : Bool) → path_eq m.path p ≡ b
-        → keeps k (if b then Some (taken m.kind (standing_at st p)) else standing_at st p) ≡ true
-    go false e = h p k a
-    go true e =
-        let here : fits m.kind (standing_at st p) ≡ true =
-        subst (λ q. fits m.kind (standing_at st q) ≡ true) (paths_are m.path p e) f in
-        kept_on k m.kind (standing_at st p) here (h p k a)
+keeps_more m st h f p k (next a) = elim (cases_Bool (path_eq m.path p)) [
+  | inl e ↦
+      let here : fits m.kind (standing_at st p) ≡ true =
+      subst (λ q. fits m.kind (standing_at st q) ≡ true) (paths_are m.path p e) f in
+      rw e (kept_on k m.kind (standing_at st p) here (h p k a))
+  | inr e ↦ rw e (h p k a)
+]
 
 -- marks that were taken: they are kept, and there are no others
 record Ran (st ms after : List Mark) : Type 0 where
@@ -143,8 +93,10 @@ record Ran (st ms after : List Mark) : Type 0 where
 ran : (st ms after : List Mark) → Keeps st → take_all st ms ≡ Some after → Ran st ms after
 ran st [] after h e = let same : st ≡ after = cc in
     rw (← same) (record { keep = h; stays = λ a. a; joins = λ a. elim a [ ]; made = λ a. inl a })
-ran st (m ∷ ms) after h e =
-    go (fits m.kind (standing_at st m.path)) refl (λ f. ran (m ∷ st) ms after (keeps_more m st h f)) e
+ran st (m ∷ ms) after h e = elim (cases_Bool (fits m.kind (standing_at st m.path))) [
+  | inl f ↦ more (ran (m ∷ st) ms after (keeps_more m st h f) (rw f at e))
+  | inr f ↦ absurd (cc (rw f at e))
+]
   where
     more : Ran (m ∷ st) ms after → Ran st (m ∷ ms) after
     more r = record { keep = r.keep; stays = λ a. r.stays (next a); joins = λ a. join a; made = λ a. from (r.made a) }
@@ -158,37 +110,27 @@ ran st (m ∷ ms) after h e =
         from (inl (next a)) = inl a
         from (inr a) = inr (next a)
 
-    go : (b : Bool) → fits m.kind (standing_at st m.path) ≡ b
-        → (fits m.kind (standing_at st m.path) ≡ true → take_all (m ∷ st) ms ≡ Some after → Ran (m ∷ st) ms after)
-        → cond b (take_all (m ∷ st) ms) None ≡ Some after → Ran st (m ∷ ms) after
-    go true f ih e = more (ih f e)
-    go false f ih e = cc
-
 -- the section that a mark is of
 among_one : {m : Mark} (ls : List Placed) → Among m (all_marks ls) → (l : Placed) × Among l ls × Among m (marks l)
 among_one [] a = elim a [ ]
-among_one {m = m} (l ∷ ls) a = go (among_one ls) (among_either (marks l) (all_marks ls) a)
-  where
-    go : (Among m (all_marks ls) → (l : Placed) × Among l ls × Among m (marks l))
-        → Among m (marks l) ⊎ Among m (all_marks ls) → (x : Placed) × Among x (l ∷ ls) × Among m (marks x)
-    go ih (inl a) = (l, first, a)
-    go ih (inr a) = let r = ih a in (r.0, next r.1, r.2)
+among_one (l ∷ ls) a = elim (among_either (marks l) (all_marks ls) a) [
+  | inl a ↦ (l, first, a)
+  | inr a ↦ let r = among_one ls a in (r.0, next r.1, r.2)
+]
 
 among_all : {l : Placed} {m : Mark} (ls : List Placed) → Among l ls → Among m (marks l) → Among m (all_marks ls)
 among_all [] b a = elim b [ ]
 among_all (l ∷ ls) first a = among_left (all_marks ls) a
 among_all (k ∷ ls) (next b) a = among_right (marks k) (among_all ls b a)
 
-any_of : {A : Type 0} (f : A → Bool) (xs : List A) → list_any f xs ≡ true → (x : A) × Among x xs × (f x ≡ true)
+pub any_of : {A : Type 0} (f : A → Bool) (xs : List A) → list_any f xs ≡ true → (x : A) × Among x xs × (f x ≡ true)
 any_of f [] e = absurd (false≢true e)
-any_of {A = A} f (x ∷ xs) e = go (any_of f xs) (or_cases _ _ e)
-  where
-    go : (list_any f xs ≡ true → (y : A) × Among y xs × (f y ≡ true)) → (f x ≡ true) ⊎ (list_any f xs ≡ true)
-        → (y : A) × Among y (x ∷ xs) × (f y ≡ true)
-    go ih (inl h) = (x, first, h)
-    go ih (inr h) = let r = ih h in (r.0, next r.1, r.2)
+any_of f (x ∷ xs) e = elim (or_cases _ _ e) [
+  | inl h ↦ (x, first, h)
+  | inr h ↦ let r = any_of f xs h in (r.0, next r.1, r.2)
+]
 
-of_any : {A : Type 0} {x : A} {xs : List A} (f : A → Bool) → Among x xs → f x ≡ true → list_any f xs ≡ true
+pub of_any : {A : Type 0} {x : A} {xs : List A} (f : A → Bool) → Among x xs → f x ≡ true → list_any f xs ≡ true
 of_any f first e = or_left _ _ e
 of_any f (next a) e = or_right _ _ (of_any f a e)
 
@@ -230,12 +172,10 @@ number_said e rs (s ∷ t) (r ∷ q) b =
     let two = and_parts (begins (r ∷ q) (s ∷ t ++ step_into e)) (is_number (drop (length q) (t ++ step_into e))) b in
     let both = and_parts (step_eq r s) (begins q (t ++ step_into e)) two.0 in
     let same : r ≡ s = step_is r s both.0 in
-    further same (number_said e rs t q (and_from _ _ both.1 two.1))
-  where
-    further : r ≡ s → Says e rs t q added ⊎ Says e rs t q by_latest
-        → Says e rs (s ∷ t) (r ∷ q) added ⊎ Says e rs (s ∷ t) (r ∷ q) by_latest
-    further same (inl x) = rw same (inl (on x))
-    further same (inr x) = rw same (inr (on x))
+    elim (number_said e rs t q (and_from _ _ both.1 two.1)) [
+      | inl x ↦ rw same (inl (on x))
+      | inr x ↦ rw same (inr (on x))
+    ]
 
 says_added : (n : ℕ) (rs : Rows) (t : Path) → Says (Some n) rs t t added
 says_added n rs [] = adds
@@ -298,34 +238,22 @@ module _ (ss : List Section) (st : List Mark) (e : enter_all ss [] ≡ Some st) 
       rw (k.3, k.4) (says_added k.1 k.0.rows p) in
       kept k.0 k.2 here
 
-  array_stands : (o : Option Standing) → keeps added o ≡ true → stands_array o ≡ true
+  array_stands : (o : Option Standing) → of_array o ≡ true → stands_array o ≡ true
   array_stands (Some (array n)) h = refl
-  array_stands None h = absurd (false≢true h)
-  array_stands (Some value) h = absurd (false≢true h)
-  array_stands (Some (table p n d)) h = absurd (false≢true h)
+  array_stands o h = absurd (false≢true h)
 
   array_made : (o : Option Standing) → stands_array o ≡ true → stands_made o ≡ true
   array_made (Some (array n)) h = refl
-  array_made None h = absurd (false≢true h)
-  array_made (Some value) h = absurd (false≢true h)
-  array_made (Some (table p n d)) h = absurd (false≢true h)
+  array_made o h = absurd (false≢true h)
 
-  passed_made : (o : Option Standing) → keeps passed o ≡ true → stands_made o ≡ true
-  passed_made (Some (array n)) h = refl
-  passed_made None h = absurd (false≢true h)
-  passed_made (Some value) h = absurd (false≢true h)
-  passed_made (Some (table p n d)) h = or_left p n h
-
-  named_made : (o : Option Standing) → keeps named o ≡ true → stands_made o ≡ true
-  named_made (Some (array n)) h = refl
-  named_made None h = absurd (false≢true h)
-  named_made (Some value) h = absurd (false≢true h)
-  named_made (Some (table p n d)) h = or_right p n h
+  table_made : (o : Option Standing) → of_table o ≡ true → stands_made o ≡ true
+  table_made (Some (table p n d)) h = h
+  table_made o h = absurd (false≢true h)
 
   header_made : {p : Path} (k : MarkKind) → is_header k ≡ true → (l : Placed) → Among l (placed ss)
       → Says l.element l.rows l.target p k → stands_made (standing_at st p) ≡ true
-  header_made {p = p} passed h l a says = passed_made (standing_at st p) (kept l a says)
-  header_made {p = p} named h l a says = named_made (standing_at st p) (kept l a says)
+  header_made {p = p} passed h l a says = table_made (standing_at st p) (kept l a says)
+  header_made {p = p} named h l a says = table_made (standing_at st p) (kept l a says)
   header_made {p = p} added h l a says =
       array_made (standing_at st p) (array_stands (standing_at st p) (kept l a says))
   header_made {p = p} by_latest h l a says =
@@ -349,15 +277,13 @@ module _ (ss : List Section) (st : List Mark) (e : enter_all ss [] ≡ Some st) 
 
   made_back : (p : Path) (o : Option Standing) → Shown st p o → stands_made o ≡ true
       → list_any (λ l. begins p (path_of l)) (placed ss) ≡ true
-  made_back p None shows h = absurd (false≢true h)
-  made_back p (Some value) shows h = absurd (false≢true h)
   made_back p (Some (array zero)) shows h = on_the_way by_latest refl (saying shows)
   made_back p (Some (array (suc n))) shows h = on_the_way added refl (saying shows)
-  made_back p (Some (table q n d)) shows h = go (or_cases q n h)
-    where
-      go : (q ≡ true) ⊎ (n ≡ true) → list_any (λ l. begins p (path_of l)) (placed ss) ≡ true
-      go (inl e) = on_the_way passed refl (saying (shows.passes e))
-      go (inr e) = on_the_way named refl (saying (shows.names e))
+  made_back p (Some (table q n d)) shows h = elim (or_cases q n h) [
+    | inl e ↦ on_the_way passed refl (saying (shows.passes e))
+    | inr e ↦ on_the_way named refl (saying (shows.names e))
+  ]
+  made_back p o shows h = absurd (false≢true h)
 
   pub made_is : (s : Step) (p : Path) → is_made (located ss) (s ∷ p) ≡ stands_made (standing_at st (s ∷ p))
   made_is s p =
@@ -392,11 +318,9 @@ module _ (ss : List Section) (st : List Mark) (e : enter_all ss [] ≡ Some st) 
 
   array_back : (p : Path) (o : Option Standing) → Shown st p o → stands_array o ≡ true
       → list_any (λ l. goes_into p (path_of l)) (placed ss) ≡ true
-  array_back p None shows h = absurd (false≢true h)
-  array_back p (Some value) shows h = absurd (false≢true h)
-  array_back p (Some (table q n d)) shows h = absurd (false≢true h)
   array_back p (Some (array zero)) shows h = added_into (added_there (saying shows))
   array_back p (Some (array (suc n))) shows h = added_into (added_said (saying shows))
+  array_back p o shows h = absurd (false≢true h)
 
   pub array_is : (p : Path) → is_array (located ss) p ≡ stands_array (standing_at st p)
   array_is p =

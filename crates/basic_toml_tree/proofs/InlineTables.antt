@@ -1,10 +1,9 @@
 -- Data of rows, each of one key, is a table.
 use Rattle.std.proofs.Common.{◌≡◌, ℕ, zero, suc, Bool, true, false, List, [], ◌∷◌, ◌++◌, Option, Some, None, refl, map}
 use Rattle.std.proofs.Common.{take, drop, ap, sym, ◌∙◌, rules, ◌⊎◌, inl, inr, Box, Vec, Global}
-use Rattle.std.specs.Prelude.{if◌then◌else◌}
-use Rattle.std.proofs.lemmas.Bool.{false≢true}
+use Rattle.std.proofs.lemmas.Bool.{false≢true, cases_Bool}
 use Rattle.basic_toml_value.specs.Data.{Data}
-use Rattle.basic_toml_grammar.specs.Growth.{grown, Branches, no_branches, branch, grow, grow_at, grow_all, closed}
+use Rattle.basic_toml_grammar.specs.Growth.{grown, Branches, no_branches, branch, grow_at, grow_all, closed}
 use Rattle.basic_toml_grammar.specs.Growth.{closed_branches}
 use Rattle.basic_toml_grammar.specs.Mentions.{finished, row_mentions}
 use Rattle.basic_toml_grammar.specs.Sections.{row}
@@ -34,12 +33,10 @@ keys_grow : (bs : Branches) (k : List ℕ) (p : Path) (v : Option Data) → all_
     → all_keys (grow_at bs (key k) p v) ≡ true
 keys_grow no_branches k p v all = refl
 keys_grow (branch (number n) g bs) k p v all = absurd (false≢true all)
-keys_grow (branch (key l) g bs) k p v all = go (step_eq (key l) (key k)) (keys_grow bs k p v all)
-  where
-    go : (b : Bool) → all_keys (grow_at bs (key k) p v) ≡ true
-        → all_keys (if b then branch (key l) (grow g p v) bs else branch (key l) g (grow_at bs (key k) p v)) ≡ true
-    go true more = all
-    go false more = more
+keys_grow (branch (key l) g bs) k p v all = elim (cases_Bool (step_eq (key l) (key k))) [
+  | inl here ↦ rw here all
+  | inr other ↦ rw other (keys_grow bs k p v all)
+]
 
 keys_close : (bs : Branches) → all_keys bs ≡ true → is_table (closed_branches bs) ≡ true
 keys_close no_branches all = refl
@@ -79,11 +76,7 @@ raw_is_table v rs is =
 -- what is no array has no elements
 no_elements : (d : Data) → is_table d ≡ true → elements_in d ≡ []
 no_elements (Data.table z) is = refl
-no_elements (Data.array z) is = absurd (false≢true is)
-no_elements (Data.integer z) is = absurd (false≢true is)
-no_elements (Data.float z) is = absurd (false≢true is)
-no_elements (Data.boolean z) is = absurd (false≢true is)
-no_elements (Data.string z) is = absurd (false≢true is)
+no_elements d is = absurd (false≢true is)
 
 pub raw_no_elements : (v : raws.Raw) → is_plain v 0 ≡ true → ((es : Vec Element Global) → v ≡ raws.Array es → ⊥)
     → elements_in (plain_data v) ≡ []
@@ -99,23 +92,8 @@ raw_no_elements v plain other = go (raws.out-Raw v) (sym (raws.roll-out-Raw v))
     go (Raw-F.Dotted z) is =
         let not_plain : is_plain (raws.roll-Raw (Raw-F.Dotted z)) 0 ≡ false = search (rules, raws.the_lemmas) in
         absurd (false≢true (sym not_plain ∙ ap (λ v. is_plain v 0) (sym is) ∙ plain))
-    go (Raw-F.Integer z) is =
-        let none : elements_in (plain_data (raws.roll-Raw (Raw-F.Integer z))) ≡ [] = search (rules, raws.the_lemmas) in
-        ap (λ v. elements_in (plain_data v)) is ∙ none
-    go (Raw-F.Float z) is =
-        let none : elements_in (plain_data (raws.roll-Raw (Raw-F.Float z))) ≡ [] = search (rules, raws.the_lemmas) in
-        ap (λ v. elements_in (plain_data v)) is ∙ none
-    go Raw-F.True is =
-        let none : elements_in (plain_data (raws.roll-Raw Raw-F.True)) ≡ [] = search (rules, raws.the_lemmas) in
-        ap (λ v. elements_in (plain_data v)) is ∙ none
-    go Raw-F.False is =
-        let none : elements_in (plain_data (raws.roll-Raw Raw-F.False)) ≡ [] = search (rules, raws.the_lemmas) in
-        ap (λ v. elements_in (plain_data v)) is ∙ none
-    go (Raw-F.String z) is =
-        let none : elements_in (plain_data (raws.roll-Raw (Raw-F.String z))) ≡ [] = search (rules, raws.the_lemmas) in
-        ap (λ v. elements_in (plain_data v)) is ∙ none
-    go (Raw-F.Escaped z) is =
-        let none : elements_in (plain_data (raws.roll-Raw (Raw-F.Escaped z))) ≡ [] = search (rules, raws.the_lemmas) in
+    go x is =
+        let none : elements_in (plain_data (raws.roll-Raw x)) ≡ [] = search (rules, raws.the_lemmas) in
         ap (λ v. elements_in (plain_data v)) is ∙ none
 
 pub rows_no_elements : (rs : List Row) → elements_in (rows_data rs) ≡ []

@@ -1,6 +1,5 @@
 -- The data of items and their parts.
-use Rattle.std.proofs.Common.{◌≡◌, ℕ, List, [], ◌∷◌, ◌++◌, ap, refl}
-use Rattle.std.proofs.Common.{sym, ◌∙◌, map, rules, Vec, Box, Global}
+use Rattle.std.proofs.Common.{◌≡◌, ℕ, List, [], ◌∷◌, ◌++◌, ap, refl, sym, ◌∙◌, map, rules, Vec, Box, Global}
 use Rattle.std.proofs.Common.{Option, Some, None, true, false, cond, length, ◌==◌, Result, Ok, Err, IfErr}
 use Rattle.std.specs.Str.{bytes_eq}
 use Rattle.std.proofs.lemmas.Bool.{false≢true}
@@ -33,7 +32,7 @@ pub child_item : (c : Child) → child_data c ≡ data_of (out-Child c).item
 child_item c = search (rules, the_lemmas)
 
 -- the data of a table is that of its entries
-table_members : (t : Table)
+pub table_members : (t : Table)
     → table_data t ≡ Data.table (members_of (map (λ p. (p.0, child_data p.1)) (out-Table t).entries))
 table_members t = search (rules, the_lemmas)
 

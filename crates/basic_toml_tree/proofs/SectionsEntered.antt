@@ -1,10 +1,10 @@
 -- The sections of a list entered one after another: what the tree is then, and what it says of one that is not entered.
-use Rattle.std.proofs.Common.{◌≡◌, inl, inr, ℕ, zero, suc, ◌+◌, ◌<◌, ◌≤◌, max, Bool, true, false, not}
-use Rattle.std.proofs.Common.{List, []}
+use Rattle.std.proofs.Common.{◌≡◌, inl, inr, ℕ, zero, suc, ◌+◌, ◌<◌, ◌≤◌, max, Bool, true, false, not, List, []}
 use Rattle.std.proofs.Common.{◌∷◌, ◌++◌, Option, Some, None, is_some, if◌then◌else◌, refl, ap, sym, ◌∙◌, subst, arith}
 use Rattle.std.proofs.Common.{nat_lt, map, length, take, drop, get_or, reverse}
 use Rattle.std.specs.List.{Contains}
 use Rattle.std.proofs.lemmas.List.Elements.{Contains-append_right}
+use Rattle.std.proofs.lemmas.Bool.{cases_Bool}
 use Rattle.basic_toml_value.specs.Nesting.{nesting_limit}
 use Rattle.basic_toml_grammar.specs.Sections.{Section, texts, KeyTexts}
 use Rattle.basic_toml_grammar.specs.Levels.{rows_level}
@@ -68,27 +68,20 @@ deep_among : (limit : ℕ) (ls : List Located) (l : Located) (more : List Locate
     → Contains (deep_sections limit (ls ++ l ∷ more)) l.section.at
 deep_among limit [] l more deep =
     let test : nat_lt limit (tree_level l) ≡ true = grind arith in rw test (0, omega arith, refl)
-deep_among limit (k ∷ ls) l more deep = go (nat_lt limit (tree_level k)) (deep_among limit ls l more deep)
-  where
-    go : (b : Bool) → Contains (deep_sections limit (ls ++ l ∷ more)) l.section.at
-        → Contains (if b then k.section.at ∷ deep_sections limit (ls ++ l ∷ more)
-        else deep_sections limit (ls ++ l ∷ more)) l.section.at
-    go true among = Contains-append_right (k.section.at ∷ []) (deep_sections limit (ls ++ l ∷ more)) l.section.at among
-    go false among = among
-
-one_not_deep : (b : Bool) (at : ℕ) (before after : List ℕ) → (before ≡ [] → after ≡ [])
-    → (if b then at ∷ before else before) ≡ [] → (if b then at ∷ after else after) ≡ []
-one_not_deep true at before after more none = cc
-one_not_deep false at before after more none = more none
+deep_among limit (k ∷ ls) l more deep = elim (cases_Bool (nat_lt limit (tree_level k))) [
+  | inl over ↦ rw over (Contains-append_right (k.section.at ∷ []) (deep_sections limit (ls ++ l ∷ more)) l.section.at
+      (deep_among limit ls l more deep))
+  | inr low ↦ rw low (deep_among limit ls l more deep)
+]
 
 none_deep : (limit : ℕ) (ls : List Located) (l : Located) → deep_sections limit ls ≡ [] → tree_level l ≤ limit
     → deep_sections limit (ls ++ l ∷ []) ≡ []
 none_deep limit [] l none shallow =
     let test : nat_lt limit (tree_level l) ≡ false = grind arith in rw test refl
-none_deep limit (k ∷ ls) l none shallow =
-    one_not_deep (nat_lt limit (tree_level k)) k.section.at (deep_sections limit ls) (deep_sections limit (ls ++ l ∷
-    []))
-    (λ e. none_deep limit ls l e shallow) none
+none_deep limit (k ∷ ls) l none shallow = elim (cases_Bool (nat_lt limit (tree_level k))) [
+  | inl over ↦ absurd (cc (rw over at none))
+  | inr low ↦ rw low (none_deep limit ls l (rw low at none) shallow)
+]
 
 -- one more section, which is entered
 module _ (earlier : List Section) (s : Section) (keys : KeyTexts) (t : Trie) (same : texts s.header ≡ keys)

@@ -3,7 +3,6 @@ use Rattle.std.proofs.Common.{◌≡◌, inl, inr, ℕ, ◌<◌, true, List, [],
 use Rattle.std.proofs.Common.{◌∙◌, subst, arith}
 use Rattle.std.specs.List.{Contains}
 use Rattle.std.specs.Option.{option_or}
-use Rattle.std.proofs.lemmas.List.{append-nil}
 use Rattle.std.proofs.lemmas.Bool.{false≢true}
 use Rattle.basic_toml_value.specs.Nesting.{nesting_limit}
 use Rattle.basic_toml_grammar.specs.Sections.{Section, texts}
@@ -24,7 +23,7 @@ use Rattle.basic_toml_grow.proofs.ValuesOnTheWay.{none_left, none_right}
 use Rattle.basic_toml_tree.specs.FirstStop.{only_root, Stands, Entered, StopsSection, FirstStop, value}
 use Rattle.basic_toml_tree.specs.FirstStop.{section, SectionsFaultIsOne}
 use Rattle.basic_toml_tree.proofs.SectionsEntered.{deep_by_path, no_clash}
-use Rattle.basic_toml_tree.proofs.SectionsStopped.{keyed_before, section_stops, none_dotted}
+use Rattle.basic_toml_tree.proofs.SectionsStopped.{section_stops, none_dotted, keyed_front}
 
 -- two splits of one list: at the same place, or the one before the other
 pub data Splits (a b : List Section) (x y : Section) : Type 0 where
@@ -54,10 +53,6 @@ none_before [] ys e = refl
 none_before (x ∷ xs) ys e =
     ap (λ o. option_or o (first_crossed xs)) (none_left (crossed_in x.rows) (first_crossed (xs ++ ys)) e)
     ∙ none_before xs ys (none_right (crossed_in x.rows) (first_crossed (xs ++ ys)) e)
-
-keyed_prefix : (xs ys : List Section) → all_keyed (xs ++ ys) ≡ true → all_keyed xs ≡ true
-keyed_prefix xs [] e = subst (λ (ss : List Section). all_keyed ss ≡ true) (append-nil xs) e
-keyed_prefix xs (y ∷ ys) e = keyed_before xs y ys e
 
 -- a section that is stopped after some is not among those that a tree takes
 not_entered : (before : List Section) (s : Section) (more : List Section) (t u : Trie) (fault : Fault)
@@ -107,7 +102,7 @@ module _ (sections : List Section) (keyed : all_keyed sections ≡ true) (none :
       let whole : sections ≡ (a.before ++ a.here ∷ more) ++ b.here ∷ b.later =
       b.parts ∙ ap (λ ss. ss ++ b.here ∷ b.later) e in
       not_entered a.before a.here more a.so_far b.so_far _
-      (keyed_prefix (a.before ++ a.here ∷ more) (b.here ∷ b.later)
+      (keyed_front (a.before ++ a.here ∷ more) (b.here ∷ b.later)
       (subst (λ (ss : List Section). all_keyed ss ≡ true) whole keyed))
       (none_before (a.before ++ a.here ∷ more) (b.here ∷ b.later)
       (subst (λ (ss : List Section). first_crossed ss ≡ None) whole none))

@@ -1,10 +1,10 @@
 -- The sections of a list entered one after another: what is known of the tree then, and of a section that is not entered.
-use Rattle.std.proofs.Common.{◌≡◌, inl, inr, ℕ, suc, ◌+◌, true, false, List, [], ◌∷◌, ◌++◌, refl, ap, sym, ◌∙◌}
+use Rattle.std.proofs.Common.{◌≡◌, inl, inr, ℕ, ◌+◌, true, false, List, [], ◌∷◌, ◌++◌, refl, ap, sym, ◌∙◌}
 use Rattle.std.proofs.Common.{subst, map, length, Option, Some, None}
-use Rattle.std.proofs.lemmas.List.{map-append}
-use Rattle.std.proofs.lemmas.Bool.{false≢true, and_parts, and_from}
+use Rattle.std.proofs.lemmas.List.{map-append, length-map}
+use Rattle.std.proofs.lemmas.Bool.{false≢true}
 use Rattle.basic_toml_grammar.specs.IndexedPath.{located}
-use Rattle.basic_toml_grammar.specs.Entering.{all_keyed, all_keyed_within, is_keyed}
+use Rattle.basic_toml_grammar.specs.Entering.{all_keyed, all_keyed_within}
 use Rattle.basic_toml_grammar.specs.Nodes.{is_made}
 use Rattle.basic_toml_grammar.specs.Steps.{Path}
 use Rattle.basic_toml_grammar.specs.Faults.{Fault}
@@ -35,7 +35,7 @@ use Rattle.basic_toml_tree.specs.Resolve.{IsResolved, IsUnresolved, ComesFromHea
 use Rattle.basic_toml_tree.proofs.Origins.SectionsPlaceOrigins.{Brought, none_brought, more_brought}
 use Rattle.basic_toml_tree.proofs.Origins.HeadersComeFrom.{none_come, more_come}
 use Rattle.basic_toml_tree.proofs.SectionsEntered.{one_more, whole_tree, no_clash, fits_all}
-use Rattle.basic_toml_tree.proofs.SectionsStopped.{same_obstacle_fault, crossed_named}
+use Rattle.basic_toml_tree.proofs.SectionsStopped.{same_obstacle_fault, crossed_named, keyed_front}
 use Rattle.basic_toml_tree.proofs.TrieData.{table_trie_data}
 
 -- These sections are entered in a table, their headers are kept, and what rows and headers made comes from them.
@@ -53,16 +53,6 @@ none_entered headers root none is = record {
   brought = λ keyed. none_brought (table_within root).below (ap (λ w. w.below) (fresh_within root is));
   marks = λ keyed. none_come (table_within root).below;
 }
-
-pub keyed_front : (xs ys : List Section) → all_keyed (xs ++ ys) ≡ true → all_keyed xs ≡ true
-keyed_front [] ys keyed = refl
-keyed_front (x ∷ xs) ys keyed =
-    let both = and_parts (is_keyed x) (all_keyed (xs ++ ys)) keyed in
-    and_from (is_keyed x) (all_keyed xs) both.0 (keyed_front xs ys both.1)
-
-pub mapped_length : {A B : Type 0} (f : A → B) (xs : List A) → length (map f xs) ≡ length xs
-mapped_length f [] = refl
-mapped_length f (x ∷ xs) = ap suc (mapped_length f xs)
 
 pub entered_resolved : (list : List Section) (tree : Tree) → HaveEntered list tree.headers tree.root
     → all_keyed list ≡ true → all_keyed_within list ≡ true → IsResolved list tree
@@ -113,12 +103,12 @@ module _ (list : List Section) (headers : List (ℕ × List Key)) (root : Table)
         let before = keyed_front list (section_of s ∷ []) keyed in
         more_brought list (section_of s) (header_texts s.header.items) (table_trie root) n (table_within root).below
         (table_within after).below refl before have.entered.stands
-        (counted ∙ ap length have.heads ∙ mapped_length head list) (have.brought before) grows;
+        (counted ∙ ap length have.heads ∙ length-map list head) (have.brought before) grows;
     marks = λ keyed.
         let before = keyed_front list (section_of s ∷ []) keyed in
         more_come list (section_of s) (header_texts s.header.items) (table_trie root) n (table_within root).below
         (table_within after) refl before have.entered.stands
-        (counted ∙ ap length have.heads ∙ mapped_length head list) (have.marks before) grows marks;
+        (counted ∙ ap length have.heads ∙ length-map list head) (have.marks before) grows marks;
   }
 
   -- it is not entered, and these come after it

@@ -1,14 +1,12 @@
 -- The sections of a list entered one after another, each of which gives its rows and its header away.
 use Rattle.std.proofs.Common.{◌≡◌, ℕ, suc, ◌+◌, ◌<◌, ◌≤◌, ◌==◌, true, false, List, [], ◌∷◌, ◌++◌, refl, ap}
 use Rattle.std.proofs.Common.{sym, ◌∙◌, subst, arith, map, length, take, drop, get_or, zero, Option}
-use Rattle.std.proofs.Common.{Some, None, Result, Ok, Err}
-use Rattle.std.proofs.Common.{IsErrAnd, Vec, Global}
+use Rattle.std.proofs.Common.{Some, None, Result, Ok, Err, IsErrAnd, Vec, Global}
 use Rattle.std.specs.Vec.{vec_len}
 use Rattle.std.proofs.lemmas.Bool.{false≢true, eqb-true}
-use Rattle.std.proofs.lemmas.List.{map-append, take_more, take_all}
+use Rattle.std.proofs.lemmas.List.{map-append, take_more, take_all, length-map}
 use Rattle.basic_toml_grammar.specs.Entering.{all_keyed}
 use Rattle.basic_toml_grammar.specs.Faults.{Fault}
-use Rattle.basic_toml_grammar.specs.NamedClash.{dotted_fault}
 use Rattle.basic_toml_grammar.specs.Sections.{Key, Section}
 use Rattle.basic_toml_grammar.specs.Trie.{walk, steps_to}
 use Rattle.basic_toml_explain.specs.Error.{want_of_memory}
@@ -26,11 +24,9 @@ use Rattle.basic_toml_grow.specs.Ways.{way, GrowsAlong, MarksTable}
 use Rattle.basic_toml_grow.proofs.HeadersInATrie.{fresh}
 use Rattle.basic_toml_read.proofs.RowsHaveKeys.{sections_have_keys}
 use Rattle.basic_toml_tree.specs.declared.tree.Tree.{Tree}
-use Rattle.basic_toml_tree.specs.FirstStop.{value}
-use Rattle.basic_toml_tree.specs.Resolve.{Resolves, IsResolved, IsUnresolved, memory, refused, head}
+use Rattle.basic_toml_tree.specs.Resolve.{Resolves, IsResolved, IsUnresolved, memory, head}
 use Rattle.basic_toml_tree.proofs.SectionsEntered.{split_at}
 use Rattle.basic_toml_tree.proofs.SectionsGrown.{HaveEntered, none_entered, more_entered, kept_out, entered_resolved}
-use Rattle.basic_toml_tree.proofs.SectionsGrown.{mapped_length}
 
 -- What is known after so many sections: those before are entered, and those that are left are as they were.
 pub record Goes (old now : List code.Section) (n : ℕ) (headers : List (ℕ × List Key)) (root : Table) : Type 0 where
@@ -67,7 +63,7 @@ module _ (old now : List code.Section) (n : ℕ) (headers : List (ℕ × List Ke
 
   counted_headers : n ≡ length headers
   counted_headers =
-      taken_count old n (omega (arith, goes.count)) ∙ sym (mapped_length head (map section_of (take n old)))
+      taken_count old n (omega (arith, goes.count)) ∙ sym (length-map (map section_of (take n old)) head)
       ∙ sym (ap length goes.have.heads)
 
   pub goes_on : (next : List code.Section) (more_headers : List (ℕ × List Key)) (after : Table)
@@ -111,11 +107,6 @@ want_of ss (Ok tree) some is = absurd is
 want_of ss (Err fault) some is = λ keyed.
     subst (λ (f : Fault). IsUnresolved (map section_of ss.items) f) (sym is)
     (memory (listed_somewhere ss.items (counted ss some)))
-
-pub goes_on_from_a_value : (ss : List code.Section) (at : ℕ) (fault : Fault)
-    → first_crossed (map section_of ss) ≡ Some at → fault ≡ dotted_fault at → IsUnresolved (map section_of ss) fault
-goes_on_from_a_value ss at fault there named =
-    subst (λ (f : Fault). IsUnresolved (map section_of ss) f) (sym named) (refused (value there))
 
 pub none_left : (ss : Vec code.Section Global) → (vec_len ss == 0) ≡ true → length ss.items ≤ 0
 none_left ss none = omega (arith, ss.ok.0, eqb-true (vec_len ss) 0 none)

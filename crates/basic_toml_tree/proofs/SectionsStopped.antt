@@ -1,12 +1,12 @@
 -- The fault of a list that has no tree names a clash of it, or a section that is too deep.
-use Rattle.std.proofs.Common.{◌≡◌, ◌⊎◌, inl, inr, ℕ, true, false, Bool, List, [], ◌∷◌, ◌++◌, refl, ap, sym, ◌∙◌}
+use Rattle.std.proofs.Common.{◌≡◌, ◌⊎◌, inl, inr, ℕ, true, List, [], ◌∷◌, ◌++◌, refl, ap, sym, ◌∙◌}
 use Rattle.std.proofs.Common.{subst, arith, ◌<◌, Option, Some, None}
-use Rattle.std.specs.Prelude.{◌&&◌, Contains}
+use Rattle.std.specs.Prelude.{Contains}
 use Rattle.std.specs.List.{flat_map}
+use Rattle.std.proofs.lemmas.Bool.{and_parts, and_from}
 use Rattle.basic_toml_grammar.specs.Sections.{Section, texts, KeyTexts}
 use Rattle.basic_toml_grammar.specs.Entering.{is_keyed, all_keyed}
-use Rattle.basic_toml_grammar.specs.Faults.{Fault}
-use Rattle.basic_toml_grammar.specs.Faults.{nested_too_deeply, out_of_memory}
+use Rattle.basic_toml_grammar.specs.Faults.{Fault, nested_too_deeply, out_of_memory}
 use Rattle.basic_toml_grammar.specs.GrammarFaults.{fault_at}
 use Rattle.basic_toml_grammar.specs.IndexedPath.{located}
 use Rattle.basic_toml_grammar.specs.NestingFaults.{deep_sections}
@@ -27,29 +27,17 @@ use Rattle.basic_toml_grow.proofs.ObstaclesAreStops.{met_stops}
 use Rattle.basic_toml_grow.proofs.ObstaclesAreLevels.{met_deep}
 
 -- the first sections of a list with keys, and the next one
-pub keyed_before : (earlier : List Section) (s : Section) (later : List Section)
-    → all_keyed (earlier ++ s ∷ later) ≡ true → all_keyed earlier ≡ true
-keyed_before [] s later keyed = refl
-keyed_before (r ∷ earlier) s later keyed = go (is_keyed r) (keyed_before earlier s later) keyed
-  where
-    go : (b : Bool) → (all_keyed (earlier ++ s ∷ later) ≡ true → all_keyed earlier ≡ true)
-        → (b && all_keyed (earlier ++ s ∷ later)) ≡ true → (b && all_keyed earlier) ≡ true
-    go true more keyed = more keyed
-    go false more keyed = cc
+pub keyed_front : (earlier later : List Section) → all_keyed (earlier ++ later) ≡ true → all_keyed earlier ≡ true
+keyed_front [] later keyed = refl
+keyed_front (r ∷ earlier) later keyed =
+    let both = and_parts (is_keyed r) (all_keyed (earlier ++ later)) keyed in
+    and_from (is_keyed r) (all_keyed earlier) both.0 (keyed_front earlier later both.1)
 
 keyed_here : (earlier : List Section) (s : Section) (later : List Section)
     → all_keyed (earlier ++ s ∷ later) ≡ true → is_keyed s ≡ true
-keyed_here [] s later keyed = go (is_keyed s) keyed
-  where
-    go : (b : Bool) → (b && all_keyed later) ≡ true → b ≡ true
-    go true keyed = refl
-    go false keyed = cc
-keyed_here (r ∷ earlier) s later keyed = go (is_keyed r) (keyed_here earlier s later) keyed
-  where
-    go : (b : Bool) → (all_keyed (earlier ++ s ∷ later) ≡ true → is_keyed s ≡ true)
-        → (b && all_keyed (earlier ++ s ∷ later)) ≡ true → is_keyed s ≡ true
-    go true more keyed = more keyed
-    go false more keyed = cc
+keyed_here [] s later keyed = (and_parts (is_keyed s) (all_keyed later) keyed).0
+keyed_here (r ∷ earlier) s later keyed =
+    keyed_here earlier s later (and_parts (is_keyed r) (all_keyed (earlier ++ s ∷ later)) keyed).1
 
 pub section_stops : (earlier : List Section) (s : Section) (keys : KeyTexts) (t : Trie) → texts s.header ≡ keys
     → Stands earlier t → (later : List Section) → all_keyed (earlier ++ s ∷ later) ≡ true
@@ -57,7 +45,8 @@ pub section_stops : (earlier : List Section) (s : Section) (keys : KeyTexts) (t 
     → keys_obstacle s.is_array s.rows keys 1 t ≡ Some (in_the_way x)
     → NamesClash (earlier ++ s ∷ later) (stop_fault s x)
 section_stops earlier s keys t same (inl put) later keyed none x e =
-    trie_stops_named earlier s later t x (keyed_before earlier s later keyed) (keyed_here earlier s later keyed) none put
+    trie_stops_named earlier s later t x (keyed_front earlier (s ∷ later) keyed) (keyed_here earlier s later keyed) none
+    put
     (met_stops s.is_array s.rows (texts s.header) 1 t x
     (ap (λ (ks : KeyTexts). keys_obstacle s.is_array s.rows ks 1 t) same ∙ e))
 section_stops earlier s keys t same (inr first) later keyed none x e =
@@ -83,11 +72,8 @@ same_obstacle_fault r s header at (in_the_way x) = same_fault r s header at x
 
 -- no such fault is want of memory
 obstacle_without_memory : (s : Section) (met : Obstacle) → (obstacle_fault s met).kind ≡ out_of_memory → ⊥
-obstacle_without_memory s too_deep is = cc
-obstacle_without_memory s (in_the_way (at_header left)) is = cc
 obstacle_without_memory s (in_the_way is_named) is = cc
-obstacle_without_memory s (in_the_way is_passed) is = cc
-obstacle_without_memory s (in_the_way (at_row keys k)) is = cc
+obstacle_without_memory s met is = cc
 
 pub stops_without_memory : (t : Trie) (s : Section) (fault : Fault) → StopsSection t s fault
     → fault.kind ≡ out_of_memory → ⊥

@@ -20,8 +20,7 @@ use Rattle.basic_toml_read.specs.declared.section.Section as code
 use Rattle.basic_toml_read.specs.SectionView.{section_of, header_texts, rows_view}
 use Rattle.basic_toml_read.specs.SectionsAnswer.{memory}
 use Rattle.basic_toml_read.specs.FrontOf.{sections_of}
-use Rattle.basic_toml_read.specs.SectionsRead.{onto, IsBehind, IsPlaceIn, SoFar, IsReady, IsAtStart}
-use Rattle.basic_toml_read.specs.SectionsRead.{IsStop, IsList, ReadsNext}
+use Rattle.basic_toml_read.specs.SectionsRead.{onto, IsBehind, IsPlaceIn, SoFar, IsReady, IsStop, IsList, ReadsNext}
 use Rattle.basic_toml_read.specs.declared.reader.Place.{Place}
 use Rattle.basic_toml_read.specs.declared.reader.Place.TheVariants.{Start, Behind}
 use Rattle.basic_toml_read.proofs.ListIsAnswered.{stop_answered}
@@ -32,14 +31,13 @@ use Rattle.basic_toml_grow.specs.Crossed.{crossed_in, first_crossed}
 use Rattle.basic_toml_grow.specs.Obstacles.{keys_obstacle}
 use Rattle.basic_toml_grow.specs.Item.{table_trie}
 use Rattle.basic_toml_grow.specs.declared.item.Table.{Table}
-use Rattle.basic_toml_grow.proofs.HeadersInATrie.{fresh}
 use Rattle.basic_toml_tree.specs.declared.tree.Tree.{Tree}
 use Rattle.basic_toml_tree.specs.FirstStop.{value}
 use Rattle.basic_toml_tree.specs.OfText.{IsListOf, IsTreeOf, AnswersText, Takes}
 use Rattle.basic_toml_tree.specs.Resolve.{refused}
 use Rattle.basic_toml_tree.specs.Rest.{IsReached, IsRestRead, TellsClash}
-use Rattle.basic_toml_tree.proofs.SectionsGrown.{HaveEntered, none_entered, entered_resolved, kept_out, none_crossed}
-use Rattle.basic_toml_tree.proofs.SectionsGrown.{keyed_front}
+use Rattle.basic_toml_tree.proofs.SectionsGrown.{HaveEntered, entered_resolved, kept_out, none_crossed}
+use Rattle.basic_toml_tree.proofs.SectionsStopped.{keyed_front}
 
 -- what is known before the next section is read
 pub record Grows (bytes : List ℕ) (reader : SectionReader) (headers : List (ℕ × List Key)) (root : Table) : Type 0 where
@@ -48,16 +46,6 @@ pub record Grows (bytes : List ℕ) (reader : SectionReader) (headers : List (�
   pub ready : IsReady reader
   pub so_far : SoFar reader list
   pub have : HaveEntered list headers root
-
-pub grows_at_start : (bytes : List ℕ) (reader : SectionReader) (headers : List (ℕ × List Key)) (root : Table)
-    → IsAtStart bytes reader → headers ≡ [] → table_trie root ≡ fresh → Grows bytes reader headers root
-grows_at_start bytes reader headers root start no_headers is = record {
-  list = [];
-  text = start.text;
-  ready = start.ready;
-  so_far = start.none;
-  have = none_entered headers root no_headers is;
-}
 
 -- the place of a reader that has read these sections
 module _ (bytes : List ℕ) (reader : SectionReader) (place : Place) (text : reader.text.now ≡ bytes)
@@ -135,18 +123,6 @@ rest_goes_on old reader list found s rest so_far here is = record {
       ∙ sym (crossed_joined rest.later (s ∷ []));
 }
 
--- it went in
-pub grows_on : (bytes : List ℕ) (reader : SectionReader) (headers more : List (ℕ × List Key)) (root after : Table)
-    (s : code.Section) (read : NextIsRead bytes reader headers root s)
-    → HaveEntered (read.list ++ section_of s ∷ []) more after → Grows bytes reader more after
-grows_on bytes reader headers more root after s read have = record {
-  list = read.list ++ section_of s ∷ [];
-  text = read.text;
-  ready = read.ready;
-  so_far = read.so_far;
-  have = have;
-}
-
 -- how it ends
 list_of : (bytes : List ℕ) (list : List Section) → IsList bytes list → IsListOf bytes list
 list_of bytes list is = record { grammar = list_read (folded bytes) list is.is; limit = is.limit }
@@ -190,11 +166,6 @@ clash_told bytes reader list found shown text rest is s c fault told = inr (reco
   told = subst (λ (o : Option ℕ). MatchOption o (NamesClash s c fault) (λ at. fault ≡ dotted_fault at))
       (sym is ∙ rest.first) told;
 })
-
-pub rest_stops : (bytes : List ℕ) (stop : Stop) (fault : Fault) → IsUtf8 bytes → IsStop bytes stop
-    → ExplainsWhy bytes stop.why stop.at fault
-    → (list : List Section) (s : code.Section) (c : Clash) → TellsClash bytes list s c fault
-rest_stops bytes stop fault utf8 is told list s c = inl (stop_answered bytes stop fault utf8 is told)
 
 -- a section that was handed out is the first of those that come after the sections before it
 next_is_first : (reader : SectionReader) (list : List Section) (s : Section) (later : List Section)

@@ -1,7 +1,6 @@
 -- The data of an item's trie is that of the item.
 use Rattle.std.proofs.Common.{◌≡◌, ℕ, suc, true, false, List, [], ◌∷◌, ◌++◌, map, Some, None, Option, refl, ap, sym}
-use Rattle.std.proofs.Common.{◌∙◌, subst, rules}
-use Rattle.std.proofs.Common.{length}
+use Rattle.std.proofs.Common.{◌∙◌, subst, rules, length}
 use Rattle.std.specs.Prelude.{⊤}
 use Rattle.std.proofs.lemmas.List.{map-append}
 use Rattle.basic_toml_value.specs.Data.{Data, item, items_of, members_of}
@@ -16,8 +15,7 @@ use Rattle.basic_toml_plain.proofs.RowsData.{keys_data, rows_agree}
 use Rattle.basic_toml_grow.specs.declared.item.Item.{Item, the_lemmas}
 use Rattle.basic_toml_grow.specs.declared.item.Item.TheOpen.{Item-F, Child-F, Table-F}
 use Rattle.basic_toml_grow.specs.declared.item.Item.TheViews.{roll-Item, roll-Child, roll-Table}
-use Rattle.basic_toml_grow.specs.declared.item.Item.TheFolds.{ind-Item, ind-Table, map-Item, map-Child}
-use Rattle.basic_toml_grow.specs.declared.item.Item.TheFolds.{map-Table}
+use Rattle.basic_toml_grow.specs.declared.item.Item.TheFolds.{ind-Item, ind-Table, map-Item, map-Child, map-Table}
 use Rattle.basic_toml_grow.specs.declared.item.Child.{Child}
 use Rattle.basic_toml_grow.specs.declared.item.Table.{Table}
 use Rattle.basic_toml_grow.specs.Item.{item_trie, child_trie, table_trie, by_numbers}
@@ -92,59 +90,40 @@ Agree (Item-F.Tables tables) =
     (map tree_data (map table_trie tables.value.0.items) ≡ map table_data tables.value.0.items) × OfTable tables.value.1
 Agree _ = ⊤
 
+agrees_by : (x : Item-F Item Child Table) (t : Trie) (d : Data) → item_trie (roll-Item x) ≡ t
+    → data_of (roll-Item x) ≡ d → tree_data t ≡ d → OfItem (roll-Item x)
+agrees_by x t d trie_is data_is same = ap tree_data trie_is ∙ same ∙ sym data_is
+
 item_agrees : (x : Item-F Item Child Table) → Agree x → OfItem (roll-Item x)
-item_agrees (Item-F.Integer z) agree = search (rules, the_lemmas)
-item_agrees (Item-F.Float text) agree = search (rules, the_lemmas)
-item_agrees Item-F.True agree = search (rules, the_lemmas)
-item_agrees Item-F.False agree = search (rules, the_lemmas)
-item_agrees (Item-F.String text) agree = search (rules, the_lemmas)
-item_agrees (Item-F.Escaped text) agree = search (rules, the_lemmas)
 item_agrees (Item-F.Array children) agree =
-    let a : item_trie (roll-Item (Item-F.Array children))
-    ≡ leaf (Data.array (items_of (map tree_data (map child_trie children.items)))) = search (rules, the_lemmas) in
-    let b : data_of (roll-Item (Item-F.Array children)) ≡ Data.array (items_of (map child_data children.items)) =
-    search (rules, the_lemmas) in
-    ap tree_data a ∙ ap (λ ds. Data.array (items_of ds)) agree ∙ sym b
-item_agrees (Item-F.Plain es) agree = search (rules, the_lemmas)
-item_agrees (Item-F.Rows rs) agree = search (rules, the_lemmas)
+    agrees_by (Item-F.Array children) (leaf (Data.array (items_of (map tree_data (map child_trie children.items)))))
+    (Data.array (items_of (map child_data children.items))) (search (rules, the_lemmas)) (search (rules, the_lemmas))
+    (ap (λ ds. Data.array (items_of ds)) agree)
 item_agrees (Item-F.Section rs) agree =
-    let a : item_trie (roll-Item (Item-F.Section rs)) ≡ rows_trie rs = search (rules, the_lemmas) in
-    let b : data_of (roll-Item (Item-F.Section rs)) ≡ section_data rs = search (rules, the_lemmas) in
-    ap tree_data a ∙ section_agrees rs ∙ sym b
+    agrees_by (Item-F.Section rs) (rows_trie rs) (section_data rs) (search (rules, the_lemmas))
+    (search (rules, the_lemmas)) (section_agrees rs)
 item_agrees (Item-F.Inline t) agree =
-    let a : item_trie (roll-Item (Item-F.Inline t)) ≡ leaf (tree_data (table_trie t.value)) =
-    search (rules, the_lemmas) in
-    let b : data_of (roll-Item (Item-F.Inline t)) ≡ table_data t.value = search (rules, the_lemmas) in
-    ap tree_data a ∙ agree ∙ sym b
+    agrees_by (Item-F.Inline t) (leaf (tree_data (table_trie t.value))) (table_data t.value)
+    (search (rules, the_lemmas)) (search (rules, the_lemmas)) agree
 item_agrees (Item-F.Table t) agree =
-    let a : item_trie (roll-Item (Item-F.Table t)) ≡ table_trie t.value = search (rules, the_lemmas) in
-    let b : data_of (roll-Item (Item-F.Table t)) ≡ table_data t.value = search (rules, the_lemmas) in
-    ap tree_data a ∙ agree ∙ sym b
+    agrees_by (Item-F.Table t) (table_trie t.value) (table_data t.value) (search (rules, the_lemmas))
+    (search (rules, the_lemmas)) agree
 item_agrees (Item-F.Tables tables) agree =
     let ts : List Trie = map table_trie tables.value.0.items in
+    let ds : List Data = map table_data tables.value.0.items in
     let s : Option Standing = Some (array (suc (length (map table_trie tables.value.0.items)))) in
-    let a : item_trie (roll-Item (Item-F.Tables tables))
-    ≡ trie (Some (array (suc (length (map table_trie tables.value.0.items))))) None
-    (by_numbers 0 (map table_trie tables.value.0.items ++ table_trie tables.value.1 ∷ [])) = search (rules, the_lemmas) in
-    let b : data_of (roll-Item (Item-F.Tables tables))
-    ≡ Data.array (items_of (map table_data tables.value.0.items ++ table_data tables.value.1 ∷ [])) =
-    search (rules, the_lemmas) in
-    ap tree_data a
-    ∙ numbers_agree s ts (table_trie tables.value.1) (map table_data tables.value.0.items) (table_data tables.value.1)
-    agree.0 agree.1
-    ∙ sym b
+    agrees_by (Item-F.Tables tables) (trie s None (by_numbers 0 (ts ++ table_trie tables.value.1 ∷ [])))
+    (Data.array (items_of (ds ++ table_data tables.value.1 ∷ []))) (search (rules, the_lemmas))
+    (search (rules, the_lemmas))
+    (numbers_agree s ts (table_trie tables.value.1) ds (table_data tables.value.1) agree.0 agree.1)
 item_agrees (Item-F.Sections tables) agree =
     let ts = map (λ t. rows_trie t.1) tables.value.0 in
     let s : Option Standing = Some (array (suc (length tables.value.0))) in
-    let a : item_trie (roll-Item (Item-F.Sections tables))
-    ≡ trie (Some (array (suc (length tables.value.0)))) None
-    (by_numbers 0 (map (λ t. rows_trie t.1) tables.value.0 ++ rows_trie tables.value.1.1 ∷ [])) =
-    search (rules, the_lemmas) in
-    let b : data_of (roll-Item (Item-F.Sections tables)) ≡ sections_data tables.value = search (rules, the_lemmas) in
-    ap tree_data a
-    ∙ numbers_agree s ts (rows_trie tables.value.1.1) (map (λ t. section_data t.1) tables.value.0)
-    (section_data tables.value.1.1) (sections_agree tables.value.0) (section_agrees tables.value.1.1)
-    ∙ sym b
+    agrees_by (Item-F.Sections tables) (trie s None (by_numbers 0 (ts ++ rows_trie tables.value.1.1 ∷ [])))
+    (sections_data tables.value) (search (rules, the_lemmas)) (search (rules, the_lemmas))
+    (numbers_agree s ts (rows_trie tables.value.1.1) (map (λ t. section_data t.1) tables.value.0)
+    (section_data tables.value.1.1) (sections_agree tables.value.0) (section_agrees tables.value.1.1))
+item_agrees x agree = search (rules, the_lemmas)
 
 child_agrees : (x : Child-F Item Child Table) → OfItem x.item → OfChild (roll-Child x)
 child_agrees x agree =
@@ -176,20 +155,11 @@ Table1 = (t : Table) × OfTable t
 
 parts_agree : (y : Item-F Item1 Child1 Table1)
     → Agree (map-Item Item1 Child1 Table1 Item Child Table (λ e. e.0) (λ e. e.0) (λ e. e.0) y)
-parts_agree (Item-F.Integer z) = tt
-parts_agree (Item-F.Float text) = tt
-parts_agree Item-F.True = tt
-parts_agree Item-F.False = tt
-parts_agree (Item-F.String text) = tt
-parts_agree (Item-F.Escaped text) = tt
 parts_agree (Item-F.Array es) = children_agree es.items
-parts_agree (Item-F.Plain es) = tt
-parts_agree (Item-F.Rows rs) = tt
-parts_agree (Item-F.Section rs) = tt
-parts_agree (Item-F.Sections tables) = tt
 parts_agree (Item-F.Inline e) = e.value.1
 parts_agree (Item-F.Table e) = e.value.1
 parts_agree (Item-F.Tables e) = (tables_agree e.value.0.items, e.value.1.1)
+parts_agree y = tt
 
 item_case : (x : Item-F Item Child Table) (y : Item-F Item1 Child1 Table1)
     → map-Item Item1 Child1 Table1 Item Child Table (λ e. e.0) (λ e. e.0) (λ e. e.0) y ≡ x → OfItem (roll-Item x)

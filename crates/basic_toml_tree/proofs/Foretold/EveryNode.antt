@@ -1,9 +1,8 @@
 -- Wherever the document of a section list has data, a node is foretold: what headers made by its path, and what rows
 -- brought since it comes from somewhere.
-use Rattle.std.proofs.Common.{◌≡◌, Bool, true, false, not, List, [], ◌∷◌, Option, Some, None, refl, ap}
-use Rattle.std.proofs.Common.{◌∙◌, subst}
+use Rattle.std.proofs.Common.{◌≡◌, Bool, true, false, not, List, [], ◌∷◌, Option, Some, None, refl, ap, ◌∙◌, subst}
 use Rattle.std.specs.Prelude.{◌||◌, if◌then◌else◌, is_some, nat_le}
-use Rattle.std.proofs.lemmas.Bool.{false≢true}
+use Rattle.std.proofs.lemmas.Bool.{false≢true, or_parts}
 use Rattle.basic_toml_value.specs.Data.{Data}
 use Rattle.basic_toml_value.specs.Nesting.{nesting_limit}
 use Rattle.basic_toml_grammar.specs.Sections.{Section}
@@ -27,7 +26,7 @@ use Rattle.basic_toml_grow.specs.Ways.{sections_origins}
 use Rattle.basic_toml_tree.specs.Paths.{data_along}
 use Rattle.basic_toml_tree.specs.Statements.{EveryNodeIsForetold, EveryNodeOfAListIsForetold}
 use Rattle.basic_toml_tree.proofs.Origins.RowsAreNodes.{Same, sections_same}
-use Rattle.basic_toml_tree.proofs.Nodes.RowNodesTold.{located_any, located_keyed, no_row_clash}
+use Rattle.basic_toml_tree.proofs.Nodes.RowNodesTold.{located_any, located_keyed}
 use Rattle.basic_toml_tree.proofs.Foretold.PathsReached.{InTurn, bare_in_turn, tree_leads}
 use Rattle.basic_toml_tree.proofs.Foretold.ValuesFound.{sections_found}
 
@@ -64,7 +63,7 @@ foretold_there sections (s ∷ p) keyed within free e = go (is_made ls (s ∷ p)
         told (node_of_sections ls (last_at sections) ls (s ∷ p)) (sections_origins 0 ls (s ∷ p))
         (sections_same ls (last_at sections) 0 ls (s ∷ p) is
         (located_any (λ s. rows_clash s.rows) [] sections
-        ∙ no_row_clash (has_row_clash sections) (sections_clash sections) free)
+        ∙ (or_parts (has_row_clash sections) (sections_clash sections) free).0)
         (located_keyed [] sections ∙ within))
         (sections_found 0 ls (s ∷ p) is (tree_leads (mentions ls) s p (in_turn sections keyed free) e))
 

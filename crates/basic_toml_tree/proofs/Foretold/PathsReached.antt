@@ -1,12 +1,12 @@
 -- Where the tree of mentions has data at a path, a mention leads there: it goes on from the path, or the path goes on from
 -- it into its value.
-use Rattle.std.proofs.Common.{◌≡◌, ◌+◌, ℕ, zero, suc, Bool, true, false, cond, List, [], ◌∷◌, Option, Some}
-use Rattle.std.proofs.Common.{None, refl, ap, sym, ◌∙◌, arith}
+use Rattle.std.proofs.Common.{◌≡◌, ◌+◌, ℕ, zero, suc, Bool, true, false, List, [], ◌∷◌, Option, Some}
+use Rattle.std.proofs.Common.{None, refl, arith, inl, inr}
 use Rattle.std.specs.Prelude.{◌||◌, ◌&&◌, if◌then◌else◌, is_some, slice_get, nat_eq}
 use Rattle.std.specs.List.{list_any}
 use Rattle.std.specs.Str.{bytes_eq}
 use Rattle.std.specs.Option.{option_and_then}
-use Rattle.std.proofs.lemmas.Bool.{false≢true, or_left, or_right}
+use Rattle.std.proofs.lemmas.Bool.{false≢true, or_left, or_right, cases_Bool}
 use Rattle.basic_toml_value.specs.Data.{Data}
 use Rattle.basic_toml_grammar.specs.Sections.{KeyTexts, texts, Rows, no_rows, row}
 use Rattle.basic_toml_grammar.specs.Steps.{Step, key, number, Path, step_eq, steps_of}
@@ -51,12 +51,10 @@ grow_at_key : (k : List ℕ) (p : Path) (v : Option Data) → ((g : Growth) → 
     → InTurn (shoot p v) → (j : ℕ) (bs : Branches) → Counts j bs → Counts j (grow_at bs (key k) p v)
 grow_at_key k p v f shot j no_branches h = (shot, tt)
 grow_at_key k p v f shot j (branch (number i) g bs) h = (h.0, h.1, grow_at_key k p v f shot (suc j) bs h.2)
-grow_at_key k p v f shot j (branch (key l) g bs) h = go (step_eq (key l) (key k)) (grow_at_key k p v f shot j bs h.1)
-  where
-    go : (b : Bool) → Counts j (grow_at bs (key k) p v)
-        → Counts j (if b then branch (key l) (grow g p v) bs else branch (key l) g (grow_at bs (key k) p v))
-    go true later = (f g h.0, h.1)
-    go false later = (h.0, later)
+grow_at_key k p v f shot j (branch (key l) g bs) h = elim (cases_Bool (step_eq (key l) (key k))) [
+  | inl here ↦ rw here (f g h.0, h.1)
+  | inr other ↦ rw other (h.0, grow_at_key k p v f shot j bs h.1)
+]
 
 grow_keys : (ks : KeyTexts) (v : Option Data) (g : Growth) → InTurn g → InTurn (grow g (steps_of ks) v)
 grow_keys [] v (grown o bs) h = h
@@ -110,17 +108,10 @@ mutual
       → reaches_by bs (key k) p ≡ true
   members_reached no_branches j k p h e = e
   members_reached (branch (number i) g bs) j k p h e = members_reached bs (suc j) k p h.2 e
-  members_reached (branch (key l) g bs) j k p h e =
-      ap (λ b. if b then reaches g p else reaches_by bs (key k) p) (turn_eq (key l) (key k))
-      ∙ go (bytes_eq k l) (λ e. closed_reached g p h.0 e) (λ e. members_reached bs j k p h.1 e) e
-    where
-      go : (b : Bool) → (is_some (data_along p (closed g)) ≡ true → reaches g p ≡ true)
-          → (is_some (option_and_then (data_along p) (data_among (members_of bs) k)) ≡ true
-          → reaches_by bs (key k) p ≡ true)
-          → is_some (option_and_then (data_along p) (cond b (Some (closed g)) (data_among (members_of bs) k))) ≡ true
-          → (if b then reaches g p else reaches_by bs (key k) p) ≡ true
-      go true here later e = here e
-      go false here later e = later e
+  members_reached (branch (key l) g bs) j k p h e = elim (cases_Bool (bytes_eq k l)) [
+    | inl same ↦ rw (turn_eq (key l) (key k), same) (closed_reached g p h.0 (rw same at e))
+    | inr other ↦ rw (turn_eq (key l) (key k), other) (members_reached bs j k p h.1 (rw other at e))
+  ]
 
   items_reached : (bs : Branches) (j n m : ℕ) (p : Path) → m ≡ j + n → Counts j bs
       → is_some (option_and_then (data_along p) (slice_get (listed (items_of bs)) n)) ≡ true
@@ -150,12 +141,10 @@ shoot_leads [] v [] e = refl
 shoot_leads (t ∷ w) v [] e = refl
 shoot_leads [] None (s ∷ p) e = e
 shoot_leads [] (Some d) (s ∷ p) e = e
-shoot_leads (t ∷ w) v (s ∷ p) e = go (step_eq t s) (λ e. shoot_leads w v p e) e
-  where
-    go : (b : Bool) → (reaches (shoot w v) p ≡ true → leads w v p ≡ true)
-        → (if b then reaches (shoot w v) p else false) ≡ true → (b && leads w v p) ≡ true
-    go true on e = on e
-    go false on e = e
+shoot_leads (t ∷ w) v (s ∷ p) e = elim (cases_Bool (step_eq t s)) [
+  | inl same ↦ rw same (shoot_leads w v p (rw same at e))
+  | inr other ↦ rw other (rw other at e)
+]
 
 mutual
   grow_leads : (g : Growth) (w : Path) (v : Option Data) (p : Path) → reaches (grow g w v) p ≡ true
@@ -169,35 +158,17 @@ mutual
 
   at_leads : (bs : Branches) (t : Step) (w : Path) (v : Option Data) (s : Step) (p : Path)
       → reaches_by (grow_at bs t w v) s p ≡ true → (reaches_by bs s p || (step_eq t s && leads w v p)) ≡ true
-  at_leads no_branches t w v s p e = go (step_eq t s) e
-    where
-      go : (b : Bool) → (if b then reaches (shoot w v) p else false) ≡ true → (b && leads w v p) ≡ true
-      go true e = shoot_leads w v p e
-      go false e = e
-  at_leads (branch r g bs) t w v s p e =
-      go (step_eq r t) refl (λ e. grow_leads g w v p e) (λ e. at_leads bs t w v s p e) e
-    where
-      here : (c : Bool) → (reaches (grow g w v) p ≡ true → (reaches g p || leads w v p) ≡ true)
-          → (if c then reaches (grow g w v) p else reaches_by bs s p) ≡ true
-          → ((if c then reaches g p else reaches_by bs s p) || (c && leads w v p)) ≡ true
-      here true first e = first e
-      here false first e = or_left _ _ e
-
-      there : (c : Bool) → (reaches_by (grow_at bs t w v) s p ≡ true
-          → (reaches_by bs s p || (step_eq t s && leads w v p)) ≡ true)
-          → (if c then reaches g p else reaches_by (grow_at bs t w v) s p) ≡ true
-          → ((if c then reaches g p else reaches_by bs s p) || (step_eq t s && leads w v p)) ≡ true
-      there true later e = or_left _ _ e
-      there false later e = later e
-
-      go : (b : Bool) → step_eq r t ≡ b → (reaches (grow g w v) p ≡ true → (reaches g p || leads w v p) ≡ true)
-          → (reaches_by (grow_at bs t w v) s p ≡ true → (reaches_by bs s p || (step_eq t s && leads w v p)) ≡ true)
-          → reaches_by (if b then branch r (grow g w v) bs else branch r g (grow_at bs t w v)) s p ≡ true
-          → ((if step_eq r s then reaches g p else reaches_by bs s p) || (step_eq t s && leads w v p)) ≡ true
-      go true at first later e =
-          ap (λ t. (if step_eq r s then reaches g p else reaches_by bs s p) || (step_eq t s && leads w v p))
-          (sym (step_is r t at)) ∙ here (step_eq r s) first e
-      go false at first later e = there (step_eq r s) later e
+  at_leads no_branches t w v s p e = shoot_leads (t ∷ w) v (s ∷ p) e
+  at_leads (branch r g bs) t w v s p e = elim (cases_Bool (step_eq r t)) [
+    | inl same ↦ elim (cases_Bool (step_eq r s)) [
+      | inl here ↦ rw (← step_is r t same, here) (grow_leads g w v p (rw (same, here) at e))
+      | inr not ↦ rw not (or_left _ _ (rw (same, not) at e))
+    ]
+    | inr other ↦ elim (cases_Bool (step_eq r s)) [
+      | inl here ↦ rw here (or_left _ _ (rw (other, here) at e))
+      | inr not ↦ rw not (at_leads bs t w v s p (rw (other, not) at e))
+    ]
+  ]
 
 one_more : (a b c d : Bool) → (d ≡ true → (a || b) ≡ true) → (d || c) ≡ true → (a || (b || c)) ≡ true
 one_more true b c d first e = refl

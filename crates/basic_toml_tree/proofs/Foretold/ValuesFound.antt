@@ -54,24 +54,12 @@ row_found (k ∷ l ∷ ks) o d f value t (u ∷ p) e =
 mutual
   value_found : (s at : ℕ) (v : Raw) (p : Path) → is_some (data_along p (finished v)) ≡ true
       → Found (value_origins s at v) p
-  value_found s at (Raw.integer z) [] e = refl
-  value_found s at (Raw.float z) [] e = refl
-  value_found s at (Raw.boolean z) [] e = refl
-  value_found s at (Raw.string z c) [] e = refl
-  value_found s at (Raw.array es) [] e = refl
-  value_found s at (Raw.inline rows) [] e = refl
-  value_found s at (Raw.integer z) (key k ∷ p) e = e
-  value_found s at (Raw.float z) (key k ∷ p) e = e
-  value_found s at (Raw.boolean z) (key k ∷ p) e = e
-  value_found s at (Raw.string z c) (key k ∷ p) e = e
-  value_found s at (Raw.array es) (key k ∷ p) e = e
-  value_found s at (Raw.integer z) (number n ∷ p) e = e
-  value_found s at (Raw.float z) (number n ∷ p) e = e
-  value_found s at (Raw.boolean z) (number n ∷ p) e = e
-  value_found s at (Raw.string z c) (number n ∷ p) e = e
   value_found s at (Raw.array es) (number n ∷ p) e = element_found s es n p e
   value_found s at (Raw.inline rows) (t ∷ p) e =
       rows_found s rows t p (tree_leads (row_mentions [] rows) t p (rows_in_turn rows) e)
+  value_found s at v [] e = refl
+  value_found s at v (key k ∷ p) e = e
+  value_found s at v p e = e
 
   element_found : (s : ℕ) (es : Elements) (n : ℕ) (p : Path)
       → is_some (option_and_then (data_along p) (slice_get (listed (finished_elements es)) n)) ≡ true
@@ -128,12 +116,10 @@ section_found : (n : ℕ) (l : Located) (p : Path) → begins p l.path ≡ false
     → (leads l.path None p || any_leads (row_mentions l.path l.section.rows) p) ≡ true
     → Found (along l.path (rows_origins n l.section.rows)) p
 section_found n l p apart e =
-    go (or_cases (leads l.path None p) (any_leads (row_mentions l.path l.section.rows) p) e)
-  where
-    go : (leads l.path None p ≡ true) ⊎ (any_leads (row_mentions l.path l.section.rows) p ≡ true)
-        → Found (along l.path (rows_origins n l.section.rows)) p
-    go (inl table) = absurd (false≢true (sym apart ∙ table_begins l.path p table))
-    go (inr rows) = rows_along n l.section.rows l.path p apart rows
+    elim (or_cases (leads l.path None p) (any_leads (row_mentions l.path l.section.rows) p) e) [
+      | inl table ↦ absurd (false≢true (sym apart ∙ table_begins l.path p table))
+      | inr rows ↦ rows_along n l.section.rows l.path p apart rows
+    ]
 
 pub sections_found : (n : ℕ) (ls : List Located) (p : Path) → list_any (λ l. begins p l.path) ls ≡ false
     → any_leads (mentions ls) p ≡ true → Found (sections_origins n ls) p

@@ -1,9 +1,10 @@
 -- No more keys lead to a node than the tree is deep.
-use Rattle.std.proofs.Common.{◌≡◌, ◌≤◌, ℕ, zero, suc, Bool, true, false, cond, List, [], ◌∷◌, length, Option, Some, None}
-use Rattle.std.proofs.Common.{arith, refl, sym, subst}
+use Rattle.std.proofs.Common.{◌≡◌, ◌≤◌, ℕ, zero, suc, List, [], ◌∷◌, length, Option, Some, None}
+use Rattle.std.proofs.Common.{arith, refl, sym, subst, inl, inr}
 use Rattle.std.specs.Prelude.{slice_get, max}
 use Rattle.std.specs.Option.{option_and_then}
 use Rattle.std.specs.Str.{bytes_eq}
+use Rattle.std.proofs.lemmas.Bool.{cases_Bool}
 use Rattle.basic_toml_value.specs.Data.{Data, Items, no_items, item, Members, no_members, member}
 use Rattle.basic_toml_value.specs.Nesting.{nesting_limit}
 use Rattle.basic_toml_grammar.specs.Depth.{depth, depth_of_items, depth_of_members}
@@ -30,28 +31,17 @@ item_depth (item e ds) (suc n) d there = let rest = item_depth ds n d there in o
 
 member_depth : (ms : Members) (k : List ℕ) (d : Data) → data_among ms k ≡ Some d → depth d ≤ depth_of_members ms
 member_depth no_members k d there = absurd (cc)
-member_depth (member l e ms) k d there = go (bytes_eq k l) there (member_depth ms k d)
-  where
-    go : (b : Bool) → cond b (Some e) (data_among ms k) ≡ Some d
-        → (data_among ms k ≡ Some d → depth d ≤ depth_of_members ms) → depth d ≤ max (depth e) (depth_of_members ms)
-    go true there rest =
-        let same : e ≡ d = cc in
-        subst (λ (d : Data). depth d ≤ max (depth e) (depth_of_members ms)) same (omega arith)
-    go false there rest = let less = rest there in omega (arith, less)
+member_depth (member l e ms) k d there = elim (cases_Bool (bytes_eq k l)) [
+  | inl here ↦
+      let same : e ≡ d = cc (rw here at there) in
+      subst (λ (d : Data). depth d ≤ max (depth e) (depth_of_members ms)) same (omega arith)
+  | inr other ↦ let less = member_depth ms k d (rw other at there) in omega (arith, less)
+]
 
 less_deep : (s : Step) (d e : Data) → data_by s d ≡ Some e → suc (depth e) ≤ depth d
 less_deep (key k) (Data.table ms) e there = let less = member_depth ms k e there in omega (arith, less)
-less_deep (key k) (Data.array ds) e there = absurd (cc)
-less_deep (key k) (Data.integer z) e there = absurd (cc)
-less_deep (key k) (Data.float z) e there = absurd (cc)
-less_deep (key k) (Data.boolean z) e there = absurd (cc)
-less_deep (key k) (Data.string z) e there = absurd (cc)
 less_deep (number n) (Data.array ds) e there = let less = item_depth ds n e there in omega (arith, less)
-less_deep (number n) (Data.table ms) e there = absurd (cc)
-less_deep (number n) (Data.integer z) e there = absurd (cc)
-less_deep (number n) (Data.float z) e there = absurd (cc)
-less_deep (number n) (Data.boolean z) e there = absurd (cc)
-less_deep (number n) (Data.string z) e there = absurd (cc)
+less_deep s d e there = absurd (cc)
 
 as_deep : (p : Path) (d e : Data) → data_along p d ≡ Some e → length p ≤ depth d
 as_deep [] d e there = omega arith

@@ -1,15 +1,12 @@
 -- Headers that begin with keys.
-use Rattle.std.proofs.Common.{◌≡◌, ◌⊎◌, inl, inr, ◌≤◌, ◌<◌, ℕ, zero, suc, Bool, true, false, List, [], ◌∷◌, ◌++◌, length, take, Some, None}
-use Rattle.std.proofs.Common.{refl, ap, sym, ◌∙◌, arith, subst, get_or}
-use Rattle.std.specs.Prelude.{slice_get}
-use Rattle.std.specs.Prelude.{◌||◌, IfSome}
-use Rattle.std.specs.List.{list_any}
-use Rattle.std.proofs.lemmas.Bool.{false≢true, and_parts, and_from, or_left, or_right}
+use Rattle.std.proofs.Common.{◌≡◌, ◌⊎◌, inl, inr, ◌≤◌, ◌<◌, ℕ, zero, suc, true, false, List, [], ◌∷◌, ◌++◌, length}
+use Rattle.std.proofs.Common.{take, Some, None, refl, ap, sym, ◌∙◌, arith, subst, get_or}
+use Rattle.std.specs.Prelude.{slice_get, IfSome}
 use Rattle.basic_toml_grammar.specs.IndexedPath.{Located, located}
 use Rattle.basic_toml_grammar.specs.Nodes.{is_made}
 use Rattle.basic_toml_grammar.proofs.Clash.PathsAgree.{append_none, keys-append}
 use Rattle.basic_toml_grammar.specs.Sections.{KeyTexts}
-use Rattle.basic_toml_grammar.specs.Steps.{Step, key, number, Path, step_eq, begins, keys_of}
+use Rattle.basic_toml_grammar.specs.Steps.{Step, key, number, Path, begins, keys_of}
 use Rattle.basic_toml_read.specs.declared.section.Key.{Key}
 use Rattle.basic_toml_read.specs.SectionView.{header_texts, key_of}
 use Rattle.basic_toml_tree.specs.declared.tree.Tree.{Tree}
@@ -19,6 +16,8 @@ use Rattle.basic_toml_tree.specs.Stands.{StandsAt, IsBeside}
 use Rattle.basic_toml_tree.specs.declared.node.Node.{Node}
 use Rattle.basic_toml_tree.specs.declared.spot.Spot.{Spot}
 use Rattle.basic_toml_tree.specs.declared.trail.Trail.TheVariants.{Header}
+use Rattle.basic_toml_tree.proofs.HeadersMake.{any_of, of_any}
+use Rattle.basic_toml_tree.proofs.Origins.RowsAreNodes.{begins_front}
 
 -- as many texts as keys
 pub text_count : (keys : List Key) → length keys ≡ length (header_texts keys)
@@ -62,43 +61,13 @@ past_all (l ∷ keys) (suc count) (suc n) k none = past_all keys count n k none
 -- what headers made below a path, and at it
 pub made_before : (ls : List Located) (p : Path) (s : Step) → is_made ls (p ++ s ∷ []) ≡ true → is_made ls p ≡ true
 made_before ls [] s made = refl
-made_before ls (r ∷ p) s made = go ls made
-  where
-    shorter : (q : Path) (p : Path) → begins (p ++ s ∷ []) q ≡ true → begins p q ≡ true
-    shorter q [] e = refl
-    shorter [] (r ∷ p) e = absurd (false≢true e)
-    shorter (t ∷ q) (r ∷ p) e =
-        let both = and_parts (step_eq r t) (begins (p ++ s ∷ []) q) e in
-        and_from (step_eq r t) (begins p q) both.0 (shorter q p both.1)
-
-    go : (ls : List Located) → list_any (λ l. begins (r ∷ p ++ s ∷ []) l.path) ls ≡ true
-        → list_any (λ l. begins (r ∷ p) l.path) ls ≡ true
-    go [] e = e
-    go (l ∷ ls) e = by (begins (r ∷ p ++ s ∷ []) l.path) refl e (go ls)
-      where
-        by : (b : Bool) → begins (r ∷ p ++ s ∷ []) l.path ≡ b
-            → (b || list_any (λ l. begins (r ∷ p ++ s ∷ []) l.path) ls) ≡ true
-            → (list_any (λ l. begins (r ∷ p ++ s ∷ []) l.path) ls ≡ true
-            → list_any (λ l. begins (r ∷ p) l.path) ls ≡ true)
-            → (begins (r ∷ p) l.path || list_any (λ l. begins (r ∷ p) l.path) ls) ≡ true
-        by true e some ih = or_left _ _ (shorter l.path (r ∷ p) e)
-        by false e some ih = or_right _ _ (ih some)
+made_before ls (r ∷ p) s made =
+    let l = any_of (λ l. begins (r ∷ p ++ s ∷ []) l.path) ls made in
+    of_any (λ l. begins (r ∷ p) l.path) l.1 (begins_front (r ∷ p) (s ∷ []) l.0.path l.2)
 
 -- an element has the keys of its array
 keys_more : (p : Path) (n : ℕ) → keys_of (p ++ number n ∷ []) ≡ keys_of p
 keys_more p n = keys-append p (number n ∷ []) ∙ append_none (keys_of p)
-
-pub keys_beside : (from node : Node) (here : Spot) (n : ℕ) → IsBeside from here node → (tree : Tree) (p : Path)
-    → StandsAt tree p from → KeysLead tree (p ++ number n ∷ []) node
-keys_beside from node here n beside tree p stands sections resolved made =
-    let before = stands.keys sections resolved (made_before (located sections) p (number n) made) in
-    subst (λ keys. KeepsHeader tree keys node.trail) (sym (keys_more p n))
-    (subst (λ kept. KeepsHeader tree (keys_of p) kept) (sym beside.trail) before)
-
-pub count_beside : (from node : Node) (here : Spot) (n : ℕ) → IsBeside from here node → (tree : Tree) (p : Path)
-    → StandsAt tree p from → CountsKeys tree (p ++ number n ∷ []) node
-count_beside from node here n beside tree p stands sections resolved =
-    beside.count ∙ stands.count sections resolved ∙ ap length (sym (keys_more p n))
 
 -- The last step of a path is this one, or stands further on.
 abbrev pub EndsAt : Path → Step → Path → Step → Path → Type 0
@@ -113,29 +82,33 @@ last_step [] (u ∷ v ∷ q) s t r same = absurd (cc)
 last_step (u ∷ p) [] s t r same = let first : u ≡ t = cc in inr (p, ap (λ u. u ∷ p) first)
 last_step (u ∷ p) (v ∷ q) s t r same =
     let first : u ≡ v = cc in
-    let rest : p ++ s ∷ [] ≡ q ++ t ∷ r = cc in on first (last_step p q s t r rest)
-  where
-    on : u ≡ v → EndsAt p s q t r → EndsAt (u ∷ p) s (v ∷ q) t r
-    on first (inl one) = inl (one.0, ap (λ u. u ∷ p) first ∙ ap (λ p. v ∷ p) one.1, one.2)
-    on first (inr further) = inr (further.0, ap (λ u. u ∷ p) first ∙ ap (λ p. v ∷ p) further.1)
+    let rest : p ++ s ∷ [] ≡ q ++ t ∷ r = cc in
+    elim (last_step p q s t r rest) [
+      | inl one ↦ inl (one.0, ap (λ u. u ∷ p) first ∙ ap (λ p. v ∷ p) one.1, one.2)
+      | inr further ↦ inr (further.0, ap (λ u. u ∷ p) first ∙ ap (λ p. v ∷ p) further.1)
+    ]
 
--- an element is below the key that its array is below
-pub rows_beside : (from node : Node) (here : Spot) (n : ℕ) → IsBeside from here node → (tree : Tree) (p : Path)
-    → StandsAt tree p from → RowsLead tree (p ++ number n ∷ []) node
-rows_beside from node here n beside tree p stands sections resolved q k r same made =
-    go (last_step p q (number n) (key k) r same)
-  where
-    other : number n ≡ key k → ⊥
-    other e = cc
+module _ (from node : Node) (here : Spot) (n : ℕ) (beside : IsBeside from here node) (tree : Tree) (p : Path)
+    (stands : StandsAt tree p from) where
+  pub keys_beside : KeysLead tree (p ++ number n ∷ []) node
+  keys_beside sections resolved made =
+      let before = stands.keys sections resolved (made_before (located sections) p (number n) made) in
+      subst (λ keys. KeepsHeader tree keys node.trail) (sym (keys_more p n))
+      (subst (λ kept. KeepsHeader tree (keys_of p) kept) (sym beside.trail) before)
 
-    go : EndsAt p (number n) q (key k) r
-        → IfSome ((table_within tree.root).below (q ++ key k ∷ []))
-        (λ o. o.made ≡ false → KeepsRow tree o.section (keys_of q) k node.trail)
-    go (inl one) = absurd (other one.2)
-    go (inr further) =
+  pub count_beside : CountsKeys tree (p ++ number n ∷ []) node
+  count_beside sections resolved =
+      beside.count ∙ stands.count sections resolved ∙ ap length (sym (keys_more p n))
+
+  -- it is below the key that its array is below
+  pub rows_beside : RowsLead tree (p ++ number n ∷ []) node
+  rows_beside sections resolved q k r same made = elim (last_step p q (number n) (key k) r same) [
+    | inl one ↦ absurd (cc (one.2))
+    | inr further ↦
         subst (λ trail. IfSome ((table_within tree.root).below (q ++ key k ∷ []))
         (λ o. o.made ≡ false → KeepsRow tree o.section (keys_of q) k trail)) (sym beside.trail)
         (stands.rows sections resolved q k further.0 further.1 made)
+  ]
 
 -- the root, to which no key leads
 pub root_rows : (tree : Tree) (node : Node) → RowsLead tree [] node

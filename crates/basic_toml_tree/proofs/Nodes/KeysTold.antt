@@ -1,18 +1,21 @@
 -- The keys that lead to a node, as the tree has them and as the section list foretells them.
-use Rattle.std.proofs.Common.{◌≡◌, inl, inr, ◌+◌, ℕ, zero, suc, Bool, true, false, List, [], ◌∷◌, ◌++◌, length}
+use Rattle.std.proofs.Common.{◌≡◌, inl, inr, ◌+◌, ℕ, zero, suc, true, false, List, [], ◌∷◌, ◌++◌, length}
 use Rattle.std.proofs.Common.{map, take, get_or, Option, Some, None, refl, ap, sym, ◌∙◌, subst, arith, length-append}
-use Rattle.std.specs.Prelude.{◌||◌, ◌==◌, ◌<◌, ◌^◌, if◌then◌else◌, slice_get, IfSome, IsSomeAnd}
+use Rattle.std.proofs.Common.{append_assoc}
+use Rattle.std.specs.Prelude.{◌||◌, ◌==◌, ◌<◌, ◌^◌, if◌then◌else◌, slice_get, IfSome, IsSomeAnd, ⊤}
 use Rattle.std.specs.List.{list_any}
-use Rattle.std.proofs.lemmas.Bool.{false≢true, and_parts, and_from}
+use Rattle.std.proofs.lemmas.Bool.{false≢true, and_parts, and_from, or_parts, cases_Bool}
 use Rattle.std.proofs.lemmas.List.{take_all}
 use Rattle.std.proofs.lemmas.Slice.Eq.{bytes_eq-Decides}
 use Rattle.std.specs.Str.{bytes_eq}
+use Rattle.std.proofs.lemmas.Option.{IfSome_then, MatchOption-at_some}
 use Rattle.basic_toml_grammar.specs.Sections.{KeyTexts, texts, Section}
 use Rattle.basic_toml_grammar.specs.Steps.{Step, key, number, Path, step_eq, begins, steps_of, keys_of}
 use Rattle.basic_toml_grammar.specs.IndexedPath.{Located, located_after, located_from, located}
 use Rattle.basic_toml_grammar.specs.Trie.{Trie, standing}
 use Rattle.basic_toml_grammar.specs.Nodes as grammar
-use Rattle.basic_toml_grammar.proofs.Clash.PathsAgree.{append_none, count_in, keys-append, keys_cut, cuts_are, counts_are}
+use Rattle.basic_toml_grammar.proofs.Clash.PathsAgree.{append_none, count_in, keys-append, keys_cut, cuts_are}
+use Rattle.basic_toml_grammar.proofs.Clash.PathsAgree.{counts_are}
 use Rattle.basic_toml_tree.specs.declared.tree.Tree.{Tree}
 use Rattle.basic_toml_tree.specs.declared.node.Node.{Node}
 use Rattle.basic_toml_grow.specs.declared.item.Item.{Item, out-Item}
@@ -28,27 +31,25 @@ use Rattle.basic_toml_grow.specs.Ways.{sections_origins}
 use Rattle.basic_toml_grammar.specs.RowClash.{rows_clash, has_row_clash}
 use Rattle.basic_toml_grammar.specs.SectionClash.{sections_clash}
 use Rattle.basic_toml_tree.proofs.Nodes.NodesCome.{child_bears}
-use Rattle.basic_toml_tree.proofs.Nodes.RowKeys.{Both, FoundIn, either, sections_found}
-use Rattle.basic_toml_tree.proofs.Nodes.RowsReach.{joined}
-use Rattle.basic_toml_tree.proofs.Nodes.OneSection.{some_same, stands_before, EntryBears, entry_bears}
-use Rattle.basic_toml_tree.proofs.Nodes.RowNodesTold.{located_any, located_keyed, some_then}
+use Rattle.basic_toml_tree.proofs.Nodes.RowKeys.{Both, FoundIn, sections_found}
+use Rattle.basic_toml_tree.proofs.Nodes.OneSection.{stands_before, entry_bears, Entry}
+use Rattle.basic_toml_tree.proofs.Nodes.RowNodesTold.{located_any, located_keyed, some_both}
 use Rattle.basic_toml_tree.proofs.Origins.RowsAreNodes.{Same, of_node, of_origin, sections_same}
 use Rattle.basic_toml_tree.specs.Headers.{keys_at}
 use Rattle.basic_toml_tree.specs.HeaderTables.{table_of}
-use Rattle.basic_toml_tree.specs.Origin.{header_of, spot_is_made, spot_section, item_section, holds_tables, table_is_made}
-use Rattle.basic_toml_tree.specs.Origin.{keys_of as kept_keys, trail_keys}
+use Rattle.basic_toml_tree.specs.Origin.{header_of, spot_is_made, spot_section, item_section, holds_tables}
+use Rattle.basic_toml_tree.specs.Origin.{table_is_made, keys_of as kept_keys, trail_keys}
 use Rattle.basic_toml_tree.specs.FirstStop.{Stands}
 use Rattle.basic_toml_origin.specs.Anchor.{LeadsTo}
 use Rattle.basic_toml_tree.specs.Resolve.{IsResolved, ComesFromHeaders, head}
-use Rattle.basic_toml_tree.specs.Stands.{trie_at, tree_trie, StandsAt, IsNodeAt}
-use Rattle.basic_toml_tree.specs.Stands.{ComesFrom, tree_origins, spot_origin}
+use Rattle.basic_toml_tree.specs.Stands.{trie_at, tree_trie, StandsAt, IsNodeAt, ComesFrom, tree_origins}
 use Rattle.basic_toml_tree.specs.Keys.{header_at, Leads, KeepsHeader, CountsKeys, KeysLead, GoesOn, CountsOn}
 use Rattle.basic_toml_tree.specs.Keys.{KeepsRow, BeginsRow, HandsOn, RowsLead}
 use Rattle.basic_toml_tree.specs.Outer.{stands_made}
-use Rattle.basic_toml_tree.proofs.Nodes.KeysLead.{made_before, EndsAt, last_step}
+use Rattle.basic_toml_tree.proofs.Nodes.KeysLead.{made_before, last_step}
 use Rattle.basic_toml_tree.specs.Nodes.{node_data}
 use Rattle.basic_toml_tree.proofs.Nodes.FewKeys.{few_keys}
-use Rattle.basic_toml_tree.proofs.Nodes.MadeNodes.{ForetoldMade, ForetoldWhere, made_in_trie, spot_made, foretold}
+use Rattle.basic_toml_tree.proofs.Nodes.MadeNodes.{made_in_trie, spot_made}
 use Rattle.basic_toml_tree.proofs.Nodes.NodesStand.{KeysOn, Further}
 
 -- the keys of a header's path are the header
@@ -143,18 +144,7 @@ has_section (spots.Item b) made = go (out-Item b.now) made
     go : (x : Item-F Item Child Table) → holds_tables x ≡ true → (n : ℕ) × (item_section x ≡ Some n)
     go (Item-F.Tables tables) made = ((out-Table tables.value.1).section, refl)
     go (Item-F.Sections tables) made = (tables.value.1.0, refl)
-    go (Item-F.Integer z) made = absurd (false≢true made)
-    go (Item-F.Float z) made = absurd (false≢true made)
-    go Item-F.True made = absurd (false≢true made)
-    go Item-F.False made = absurd (false≢true made)
-    go (Item-F.String z) made = absurd (false≢true made)
-    go (Item-F.Escaped z) made = absurd (false≢true made)
-    go (Item-F.Array z) made = absurd (false≢true made)
-    go (Item-F.Plain z) made = absurd (false≢true made)
-    go (Item-F.Rows z) made = absurd (false≢true made)
-    go (Item-F.Inline z) made = absurd (false≢true made)
-    go (Item-F.Table z) made = absurd (false≢true made)
-    go (Item-F.Section z) made = absurd (false≢true made)
+    go x made = absurd (false≢true made)
 has_section (spots.Plain b) made = absurd (false≢true made)
 
 abbrev pub HasHeader : List Located → Path → Origin → Type 0
@@ -200,11 +190,6 @@ count_keeps from node k counts tree p stands sections resolved =
     ∙ sym (ap length (keys-append p (key k ∷ [])))
 
 -- and where a row put what is there
-some_both : {A : Type 0} (o : Option A) (P Q R : A → Type 0) → ((x : A) → P x → Q x → R x) → IfSome o P → IfSome o Q
-    → IfSome o R
-some_both None P Q R f p q = tt
-some_both (Some x) P Q R f p q = f x p q
-
 no_root : (spot : Spot) (count : ℕ) → (count == 0) ≡ false → spot_is_made 1 spot ≡ spot_is_made count spot
 no_root (spots.Table b) count some = sym (ap (λ c. c || table_is_made (table_of b)) some)
 no_root (spots.Item b) count some = refl
@@ -223,11 +208,13 @@ row_keeps : (from node : Node) (k : List ℕ) (c : Child)
     → ComesFrom (child_origins c) node → (node.count == 0) ≡ false → (tree : Tree) (p : Path) → StandsAt tree p from
     → tree_origins tree (p ++ key k ∷ []) ≡ child_origins c [] → RowsLead tree (p ++ key k ∷ []) node
 row_keeps from node k c row hands comes some tree p stands here sections resolved q l r same made =
-    go (last_step p q (key k) (key l) r same)
+    elim (last_step p q (key k) (key l) r same) [
+      | inl one ↦ first one.1 (cc (one.2))
+      | inr further ↦
+          IfSome_then (tree_origins tree (q ++ key l ∷ [])) (stands.rows sections resolved q l further.0 further.1 made)
+          (λ o kept apart. row_on from node hands tree o.section (keys_of q) l (kept apart))
+    ]
   where
-    same_key : key k ≡ key l → k ≡ l
-    same_key e = cc
-
     first : p ≡ q → k ≡ l → IfSome (tree_origins tree (q ++ key l ∷ []))
         (λ o. o.made ≡ false → KeepsRow tree o.section (keys_of q) l node.trail)
     first is_path is_key =
@@ -239,10 +226,7 @@ row_keeps from node k c row hands comes some tree p stands here sections resolve
         sym (ap (λ p. p ++ key k ∷ []) is_path ∙ ap (λ k. q ++ key k ∷ []) is_key) in
         subst (λ o. IfSome o (λ o. o.made ≡ false → KeepsRow tree o.section (keys_of q) l node.trail))
         (sym (ap (tree_origins tree) path ∙ here))
-        (some_both (child_origins c []) (λ o. o.made ≡ false → o.section ≡ (out-Child c).section)
-        (λ o. o.made ≡ false → o ≡ spot_origin node.count node.spot node.start comes.section)
-        (λ o. o.made ≡ false → KeepsRow tree o.section (keys_of q) l node.trail)
-        (λ o bears own apart.
+        (some_both (child_origins c []) (child_bears c) comes.own (λ o bears own apart.
         let spot : spot_is_made 1 node.spot ≡ false =
         no_root node.spot node.count some ∙ sym (ap (λ o. o.made) (own apart)) ∙ apart in
         subst (λ n. KeepsRow tree n (keys_of q) l node.trail) (sym (bears apart))
@@ -250,18 +234,7 @@ row_keeps from node k c row hands comes some tree p stands here sections resolve
         (subst (λ keys. KeepsRow tree (out-Child c).section keys k node.trail) keys
         (subst (λ (t : Tree). KeepsRow t (out-Child c).section (take from.count (header_at from.tree.now
         before.section)) k node.trail) within
-        (row before.section before.trail spot)))))
-        (child_bears c) comes.own)
-
-    go : EndsAt p (key k) q (key l) r → IfSome (tree_origins tree (q ++ key l ∷ []))
-        (λ o. o.made ≡ false → KeepsRow tree o.section (keys_of q) l node.trail)
-    go (inl one) = first one.1 (same_key one.2)
-    go (inr further) =
-        some_then (tree_origins tree (q ++ key l ∷ []))
-        (λ o. o.made ≡ false → KeepsRow tree o.section (keys_of q) l from.trail)
-        (λ o. o.made ≡ false → KeepsRow tree o.section (keys_of q) l node.trail)
-        (λ o kept apart. row_on from node hands tree o.section (keys_of q) l (kept apart))
-        (stands.rows sections resolved q l further.0 further.1 made)
+        (row before.section before.trail spot))))))
 
 pub key_keeps : (from node : Node) (k : List ℕ) (c : Child) → GoesOn from node.spot node.trail
     → CountsOn from node.count → BeginsRow from k (out-Child c).section node.spot node.trail
@@ -272,18 +245,16 @@ key_keeps from node k c goes counts row hands comes some tree p stands there her
   row_keeps from node k c row hands comes some tree p stands here,
 )
 
--- what headers made is told
-pub keys_told : (keys : KeyTexts) (node : Node) → keys ≡ kept_keys node → (sections : List Section) (p : Path)
-    → ForetoldMade sections p node (λ found. keys ≡ found.key_path)
+-- the keys that a node keeps of what headers made
+pub made_keys : (sections : List Section) (p : Path) (node : Node) → IsNodeAt sections p node
+    → grammar.is_made (located sections) p ≡ true → kept_keys node ≡ keys_of p
 unfolding kept_keys
-keys_told keys node same sections p = foretold sections p node (λ found. keys ≡ found.key_path)
-    (λ is made.
+made_keys sections p node is made =
     let kept = is.stands.keys sections is.resolved made in
     let tree = node.tree.now in
-    same
-    ∙ ap (trail_keys tree.headers node.count) kept.trail
+    ap (trail_keys tree.headers node.count) kept.trail
     ∙ ap (λ n. take n (header_at tree kept.section)) (is.stands.count sections is.resolved)
-    ∙ first_are (keys_of p) (header_at tree kept.section) kept.leads)
+    ∙ first_are (keys_of p) (header_at tree kept.section) kept.leads
 
 -- the key after those of a path that begins another
 get_past : (before keys : KeyTexts) (k : List ℕ) → get_or (before ++ keys) (length before) k ≡ get_or keys 0 k
@@ -322,13 +293,11 @@ made_from : (ls : List Located) (q r : Path) → grammar.is_made ls q ≡ true �
 made_from ls q [] made not =
     absurd (false≢true (sym not ∙ ap (λ p. grammar.is_made ls p) (append_none q) ∙ made))
 made_from ls q (s ∷ r) made not =
-    go (grammar.is_made ls (q ++ s ∷ [])) refl (λ more. made_from ls (q ++ s ∷ []) r more
-    (ap (λ p. grammar.is_made ls p) (joined q (s ∷ []) r) ∙ not))
-  where
-    go : (b : Bool) → grammar.is_made ls (q ++ s ∷ []) ≡ b
-        → (grammar.is_made ls (q ++ s ∷ []) ≡ true → LastMade ls ((q ++ s ∷ []) ++ r)) → LastMade ls (q ++ s ∷ r)
-    go true e more = subst (λ p. LastMade ls p) (joined q (s ∷ []) r) (more e)
-    go false e more = record { before = q; step = s; rest = r; is = refl; made = made; not = e }
+    elim (cases_Bool (grammar.is_made ls (q ++ s ∷ []))) [
+      | inl more ↦ subst (λ p. LastMade ls p) (append_assoc q (s ∷ []) r) (made_from ls (q ++ s ∷ []) r more
+          (ap (λ p. grammar.is_made ls p) (append_assoc q (s ∷ []) r) ∙ not))
+      | inr last ↦ record { before = q; step = s; rest = r; is = refl; made = made; not = last }
+    ]
 
 not_any : (ls : List Located) (p : Path) → grammar.is_made ls p ≡ false → list_any (λ l. begins p l.path) ls ≡ false
 not_any ls [] not = absurd (false≢true (sym not))
@@ -344,7 +313,7 @@ module _ (sections : List Section) (node : Node) (p : Path) (is : IsNodeAt secti
     row_apart : list_any (λ l. rows_clash l.section.rows) (located sections) ≡ false
     row_apart =
         located_any (λ s. rows_clash s.rows) [] sections
-        ∙ (either (has_row_clash sections) (sections_clash sections) is.resolved.clash).0
+        ∙ (or_parts (has_row_clash sections) (sections_clash sections) is.resolved.clash).0
 
     unmade : (m : Option grammar.Node) (x : Origin) → Same m (Some x) → x.made ≡ false
     unmade None x same = absurd (cc)
@@ -352,7 +321,8 @@ module _ (sections : List Section) (node : Node) (p : Path) (is : IsNodeAt secti
 
     told_row : (q : Path) (s : Step) (r : Path) → p ≡ q ++ s ∷ r → grammar.is_made (located sections) q ≡ true
         → grammar.is_made (located sections) (q ++ s ∷ []) ≡ false → (m : Option grammar.Node) (o : Option Origin)
-        → Same m o → Both m o (FoundIn 0 (located sections) p) → IfSome o (EntryBears sections q s) → IfSome m SaysKeys
+        → Same m o → Both m o (FoundIn 0 (located sections) p)
+        → IfSome o (Entry q s 0 (located sections)) → IfSome m SaysKeys
     told_row q s r path made apart None o same found entry = tt
     told_row q s r path made apart (Some m) None same found entry = absurd (cc)
     told_row q s r path made apart (Some m) (Some o) same found entry =
@@ -373,8 +343,7 @@ module _ (sections : List Section) (node : Node) (p : Path) (is : IsNodeAt secti
         unmade (grammar.node_of_sections ls (grammar.last_at sections) ls (q ++ s ∷ [])) x
         (subst (λ o. Same (grammar.node_of_sections ls (grammar.last_at sections) ls (q ++ s ∷ [])) o) entry.3
         (sections_same ls (grammar.last_at sections) 0 ls (q ++ s ∷ []) none row_apart keyed)) in
-        let rows = some_same (tree_origins tree (q ++ key k ∷ [])) x
-        (λ o. o.made ≡ false → KeepsRow tree o.section (keys_of q) k node.trail) here
+        let rows = MatchOption-at_some ⊤ (λ o. o.made ≡ false → KeepsRow tree o.section (keys_of q) k node.trail) x here
         (is.stands.rows sections is.resolved q k r (path ∙ ap (λ s. q ++ s ∷ r) step) made) in
         let before = stands_before ls q s none found.number found.located found.there r (key found.first ∷ found.others)
         (sym path ∙ found.path) in
@@ -386,30 +355,18 @@ module _ (sections : List Section) (node : Node) (p : Path) (is : IsNodeAt secti
         ∙ ap (λ h. h ++ found.first ∷ []) at.1
         ∙ sym found.keys
 
-    row_told : IfSome (grammar.node_at sections p) SaysKeys
-    row_told =
+    pub row_keys_told : IfSome (grammar.node_at sections p) (λ found. kept_keys node ≡ found.key_path)
+    unfolding kept_keys
+    row_keys_told =
         let ls = located sections in
         let last = grammar.last_at sections in
         let by = made_from ls [] p refl not in
         let back = not_any ls p not in
         let keyed = located_keyed [] sections ∙ is.resolved.within in
-        let clash = (either (has_row_clash sections) (sections_clash sections) is.resolved.clash).1 in
+        let clash = (or_parts (has_row_clash sections) (sections_clash sections) is.resolved.clash).1 in
         rw not (told_row by.before by.step by.rest by.is by.made by.not (grammar.node_of_sections ls last ls p)
         (sections_origins 0 ls p) (sections_same ls last 0 ls p back row_apart keyed)
         (sections_found ls last 0 ls p back row_apart keyed)
-        (subst (λ p. IfSome (sections_origins 0 ls p) (EntryBears sections by.before by.step)) (sym by.is)
+        (subst (λ p. IfSome (sections_origins 0 ls p) (Entry by.before by.step 0 (located sections))) (sym by.is)
         (entry_bears sections clash is.resolved.within by.before by.step by.rest by.made
         (not_any ls (by.before ++ by.step ∷ []) by.not))))
-
-pub all_told : (keys : KeyTexts) (node : Node) → keys ≡ kept_keys node → (sections : List Section) (p : Path)
-    → ForetoldWhere sections p node (λ found. keys ≡ found.key_path)
-unfolding kept_keys
-all_told keys node same sections p is = go (grammar.is_made (located sections) p) refl
-  where
-    go : (b : Bool) → grammar.is_made (located sections) p ≡ b
-        → IfSome (grammar.node_at sections p) (λ found. keys ≡ found.key_path)
-    go true e = keys_told keys node same sections p is e
-    go false e =
-        some_then (grammar.node_at sections p)
-        (λ found. trail_keys node.tree.now.headers node.count node.trail ≡ found.key_path)
-        (λ found. keys ≡ found.key_path) (λ found told. same ∙ told) (row_told sections node p is e)

@@ -1,10 +1,10 @@
 -- Rows as one list of lines, each with its whole path: which line a path leads to, and where the table around what
 -- stands there begins.
 use Rattle.std.proofs.Common.{◌≡◌, ℕ, Bool, true, false, List, [], ◌∷◌, ◌++◌, Option, Some, None, refl, ap, sym, ◌∙◌}
-use Rattle.std.proofs.Common.{subst, length, drop}
+use Rattle.std.proofs.Common.{subst, length, drop, inl, inr}
 use Rattle.std.specs.Prelude.{◌&&◌, if◌then◌else◌}
 use Rattle.std.specs.List.{list_any}
-use Rattle.std.proofs.lemmas.Bool.{false≢true, and_parts, or_parts, or_right}
+use Rattle.std.proofs.lemmas.Bool.{false≢true, and_parts, or_parts, or_right, cases_Bool, false_from_ne_true}
 use Rattle.basic_toml_grammar.specs.Sections.{KeyTexts, Raw}
 use Rattle.basic_toml_grammar.specs.Steps.{Step, key, number, Path, step_eq, begins, overlap, steps_of}
 use Rattle.basic_toml_grammar.specs.Nodes.{Node, front, dotted_node, node_in}
@@ -77,11 +77,10 @@ around_on (s ∷ p) x e =
 
 around_begins : (p : Path) → begins (around p) p ≡ true
 around_begins [] = refl
-around_begins (s ∷ p) = go (no_keys p) (around_begins p)
-  where
-    go : (b : Bool) → begins (around p) p ≡ true → begins (if b then [] else s ∷ around p) (s ∷ p) ≡ true
-    go true ih = refl
-    go false ih = rw step_same ih
+around_begins (s ∷ p) = elim (cases_Bool (no_keys p)) [
+  | inl none ↦ rw none refl
+  | inr some ↦ rw (some, step_same) (around_begins p)
+]
 
 -- a step on from a path
 pub around_key : (p : Path) (k : List ℕ) → around (p ++ key k ∷ []) ≡ p
@@ -180,30 +179,21 @@ module _ (holder : Path → Option ℕ) (p : Path) where
   q = around p
 
   off : (e : Line) → begins (path_of e) p ≡ false → begins (path_of e) (around p) ≡ false
-  off e not = go (begins (path_of e) (around p)) refl
-    where
-      go : (b : Bool) → begins (path_of e) (around p) ≡ b → b ≡ false
-      go true x = absurd (false≢true (sym not ∙ goes_on (path_of e) (around p) p x (around_begins p)))
-      go false x = refl
+  off e not = false_from_ne_true (begins (path_of e) (around p))
+      (λ x. false≢true (sym not ∙ goes_on (path_of e) (around p) p x (around_begins p)))
 
   -- an earlier line, which the path does not meet
   later : (e : Line) (es : List Line) (n : Node) → begins (path_of e) p ≡ false → list_any (meets e) es ≡ false
       → Found holder p es n → Found holder p (e ∷ es) n
   later e es n not free (within m f a ends here chosen same) =
-      within m f (next a) ends here (rw (off e not, go (begins (around p) (path_of e)) refl) chosen) same
-    where
-      go : (b : Bool) → begins (around p) (path_of e) ≡ b → b ≡ false
-      go true x =
-          absurd (false≢true (sym (not_met e f es free a)
-          ∙ or_right (begins (path_of e) (path_of f)) (begins (path_of f) (path_of e))
-          (goes_on (path_of f) (around p) (path_of e) here x)))
-      go false x = refl
-  later e es n not free (by_rows m chosen start same) = go (begins (around p) (path_of e)) refl
-    where
-      go : (b : Bool) → begins (around p) (path_of e) ≡ b → Found holder p (e ∷ es) n
-      go true x =
-          by_rows (dotted_node e.names (holder (front (around p))) e.at) (rw (off e not, x) refl) (rw x refl) same
-      go false x = by_rows m (rw (off e not, x) chosen) (rw x start) same
+      let apart = false_from_ne_true (begins (around p) (path_of e)) (λ x. false≢true (sym (not_met e f es free a)
+      ∙ or_right (begins (path_of e) (path_of f)) (begins (path_of f) (path_of e))
+      (goes_on (path_of f) (around p) (path_of e) here x))) in
+      within m f (next a) ends here (rw (off e not, apart) chosen) same
+  later e es n not free (by_rows m chosen start same) = elim (cases_Bool (begins (around p) (path_of e))) [
+    | inl x ↦ by_rows (dotted_node e.names (holder (front (around p))) e.at) (rw (off e not, x) refl) (rw x refl) same
+    | inr x ↦ by_rows m (rw (off e not, x) chosen) (rw x start) same
+  ]
 
   -- the line of the value that the path leads into
   here : (e : Line) (es : List Line) (n : Node) → begins (path_of e) p ≡ true → ends_key (path_of e) ≡ true
@@ -251,17 +241,13 @@ module _ (holder : Path → Option ℕ) (p : Path) where
       → choose holder es p ≡ Some n → Found holder p es n
   found [] free sound apart n is = absurd (cc)
   found (e ∷ es) (Apart.more free rest) (Sound.more ends told sound) apart n is =
-      go (begins (path_of e) p) refl (begins p (path_of e)) refl is (λ is. found es rest sound both.1 n is)
-    where
-      both : (begins p e.base ≡ false) × (list_any (λ e. begins p e.base) es ≡ false)
-      both = or_parts (begins p e.base) (list_any (λ e. begins p e.base) es) apart
-
-      go : (a : Bool) → begins (path_of e) p ≡ a → (b : Bool) → begins p (path_of e) ≡ b
-          → (if a then node_in e.names (holder (front (path_of e))) e.at e.value (drop (length (path_of e)) p)
-          else if b then Some (dotted_node e.names (holder (front p)) e.at) else choose holder es p) ≡ Some n
-          → (choose holder es p ≡ Some n → Found holder p es n) → Found holder p (e ∷ es) n
-      go true x b y is ih = here e es n x ends told is
-      go false x true y is ih =
-          let same : dotted_node e.names (holder (front p)) e.at ≡ n = cc in
-          subst (λ n. Found holder p (e ∷ es) n) same (crossing e es x y both.0)
-      go false x false y is ih = later e es n x free (ih is)
+      let both = or_parts (begins p e.base) (list_any (λ e. begins p e.base) es) apart in
+      elim (cases_Bool (begins (path_of e) p)) [
+        | inl x ↦ here e es n x ends told (rw x at is)
+        | inr x ↦ elim (cases_Bool (begins p (path_of e))) [
+          | inl y ↦
+              let same : dotted_node e.names (holder (front p)) e.at ≡ n = cc (rw (x, y) at is) in
+              subst (λ n. Found holder p (e ∷ es) n) same (crossing e es x y both.0)
+          | inr y ↦ later e es n x free (found es rest sound both.1 n (rw (x, y) at is))
+        ]
+      ]

@@ -1,10 +1,10 @@
 -- The rows of values and of section lists, as lines: no line meets another one, and what is told of the nodes in their
 -- values.
-use Rattle.std.proofs.Common.{◌≡◌, ℕ, zero, suc, Bool, true, false, cond, List, [], ◌∷◌, ◌++◌, Option}
-use Rattle.std.proofs.Common.{Some, None, refl, ap, sym, ◌∙◌, length, drop}
-use Rattle.std.specs.Prelude.{◌||◌, ◌&&◌, if◌then◌else◌, not}
+use Rattle.std.proofs.Common.{◌≡◌, ℕ, zero, suc, true, false, List, [], ◌∷◌, ◌++◌, Option}
+use Rattle.std.proofs.Common.{Some, None, refl, ap, sym, ◌∙◌, length, drop, inl, inr}
+use Rattle.std.specs.Prelude.{◌||◌, ◌&&◌, if◌then◌else◌}
 use Rattle.std.specs.List.{list_any, list_all}
-use Rattle.std.proofs.lemmas.Bool.{false≢true, and_parts, or_parts, or_from}
+use Rattle.std.proofs.lemmas.Bool.{false≢true, and_parts, or_parts, or_from, false_from_ne_true, cases_Bool}
 use Rattle.basic_toml_value.specs.Data.{Data}
 use Rattle.basic_toml_grammar.specs.Sections.{Key, KeyTexts, texts, Raw, Elements, no_elements, element, Rows, no_rows}
 use Rattle.basic_toml_grammar.specs.Sections.{row}
@@ -18,7 +18,7 @@ use Rattle.basic_toml_grammar.specs.Nodes.{Node, front, value_node, dotted_node,
 use Rattle.basic_toml_grammar.specs.Nodes.{node_among, node_by}
 use Rattle.basic_toml_grammar.specs.Tree.{Mention}
 use Rattle.basic_toml_grammar.proofs.Clash.ClashesAgree.{turn_eq}
-use Rattle.basic_toml_grammar.proofs.Nesting.TreeIsAsDeepAsMentions.{same_kind, bars, barred_by, mention, Peace}
+use Rattle.basic_toml_grammar.proofs.Nesting.TreeIsAsDeepAsMentions.{bars, barred_by, mention, Peace}
 use Rattle.basic_toml_tree.specs.Outer.{no_keys, around}
 use Rattle.basic_toml_tree.proofs.Nodes.Lines.{ends_key, keys_end, Line, path_of, choose, start_among, Sound}
 use Rattle.basic_toml_tree.proofs.Nodes.Lines.{meets, Apart, Found, within, by_rows, found}
@@ -82,37 +82,35 @@ module _ (names : KeyTexts) (outer : Option ℕ) (at : ℕ) (rows : Rows) (k : L
   Below = (m : Node) × (node_in names outer at (Raw.inline rows) (around (key k ∷ p)) ≡ Some m)
       × (n.outer_offset ≡ m.start)
 
+  there : around (key k ∷ p) ≡ key k ∷ around p → (m : Node)
+      → choose (holder_in (Some at) rows) (lines_of [] (λ ks. names) rows) (around (key k ∷ p)) ≡ Some m
+      → node_in names outer at (Raw.inline rows) (around (key k ∷ p)) ≡ Some m
+  there on m chosen =
+      ap (node_in names outer at (Raw.inline rows)) on ∙ by_lines names (Some at) rows rows (key k ∷ around p)
+      ∙ ap (choose (holder_in (Some at) rows) (lines_of [] (λ ks. names) rows)) (sym on) ∙ chosen
+
   of_inline : Found (holder_in (Some at) rows) (key k ∷ p) (lines_of [] (λ ks. names) rows) n → Below
-  of_inline f = go (no_keys p) refl f
-    where
-      go : (b : Bool) → no_keys p ≡ b
-          → Found (holder_in (Some at) rows) (key k ∷ p) (lines_of [] (λ ks. names) rows) n → Below
-      go true e (within m l a ends here chosen same) =
-          let root : around (key k ∷ p) ≡ [] = ap (λ b. if b then [] else key k ∷ around p) e in
-          absurd (not_at_root (path_of l) ends (ap (begins (path_of l)) (sym root) ∙ here))
-      go true e (by_rows m chosen start same) =
-          let root : around (key k ∷ p) ≡ [] = ap (λ b. if b then [] else key k ∷ around p) e in (
-            value_node names outer at (Raw.inline rows),
-            ap (node_in names outer at (Raw.inline rows)) root,
-            same ∙ ap (holder_in (Some at) rows) root,
-          )
-      go false e (within m l a ends here chosen same) =
-          let on : around (key k ∷ p) ≡ key k ∷ around p = ap (λ b. if b then [] else key k ∷ around p) e in (
-            m,
-            ap (node_in names outer at (Raw.inline rows)) on
-                ∙ by_lines names (Some at) rows rows (key k ∷ around p)
-                ∙ ap (choose (holder_in (Some at) rows) (lines_of [] (λ ks. names) rows)) (sym on) ∙ chosen,
-            same,
-          )
-      go false e (by_rows m chosen start same) =
-          let on : around (key k ∷ p) ≡ key k ∷ around p = ap (λ b. if b then [] else key k ∷ around p) e in (
-            m,
-            ap (node_in names outer at (Raw.inline rows)) on
-                ∙ by_lines names (Some at) rows rows (key k ∷ around p)
-                ∙ ap (choose (holder_in (Some at) rows) (lines_of [] (λ ks. names) rows)) (sym on) ∙ chosen,
-            same ∙ ap (holder_in (Some at) rows) on ∙ starts_by_lines (λ ks. names) rows (key k ∷ around p)
-                ∙ ap (start_among (lines_of [] (λ ks. names) rows)) (sym on) ∙ sym start,
-          )
+  of_inline (within m l a ends here chosen same) = elim (cases_Bool (no_keys p)) [
+    | inl e ↦
+        let root : around (key k ∷ p) ≡ [] = ap (λ b. if b then [] else key k ∷ around p) e in
+        absurd (not_at_root (path_of l) ends (ap (begins (path_of l)) (sym root) ∙ here))
+    | inr e ↦ (m, there (ap (λ b. if b then [] else key k ∷ around p) e) m chosen, same)
+  ]
+  of_inline (by_rows m chosen start same) = elim (cases_Bool (no_keys p)) [
+    | inl e ↦
+        let root : around (key k ∷ p) ≡ [] = ap (λ b. if b then [] else key k ∷ around p) e in (
+          value_node names outer at (Raw.inline rows),
+          ap (node_in names outer at (Raw.inline rows)) root,
+          same ∙ ap (holder_in (Some at) rows) root,
+        )
+    | inr e ↦
+        let on : around (key k ∷ p) ≡ key k ∷ around p = ap (λ b. if b then [] else key k ∷ around p) e in (
+          m,
+          there on m chosen,
+          same ∙ ap (holder_in (Some at) rows) on ∙ starts_by_lines (λ ks. names) rows (key k ∷ around p)
+              ∙ ap (start_among (lines_of [] (λ ks. names) rows)) (sym on) ∙ sym start,
+        )
+  ]
 
 -- with no key on the way the outer offset is that of the value
 mutual
@@ -122,11 +120,7 @@ mutual
       sym (ap (λ n. n.outer_offset) same)
   bare_in v names outer at (key k ∷ x) n is none = absurd (false≢true none)
   bare_in (Raw.array es) names outer at (number i ∷ x) n is none = bare_among es names outer i x n is none
-  bare_in (Raw.inline rows) names outer at (number i ∷ x) n is none = absurd (cc)
-  bare_in (Raw.integer z) names outer at (number i ∷ x) n is none = absurd (cc)
-  bare_in (Raw.float z) names outer at (number i ∷ x) n is none = absurd (cc)
-  bare_in (Raw.boolean z) names outer at (number i ∷ x) n is none = absurd (cc)
-  bare_in (Raw.string z c) names outer at (number i ∷ x) n is none = absurd (cc)
+  bare_in v names outer at (number i ∷ x) n is none = absurd (cc)
 
   bare_among : (es : Elements) (names : KeyTexts) (outer : Option ℕ) (i : ℕ) (x : Path) (n : Node)
       → node_among names outer es i x ≡ Some n → no_keys x ≡ true → n.outer_offset ≡ outer
@@ -144,53 +138,19 @@ DeepAmong es = (names : KeyTexts) (outer : Option ℕ) (i : ℕ) (x : Path) (n :
     → node_among names outer es i x ≡ Some n → no_keys x ≡ false
     → (m : Node) × (node_among names outer es i (around x) ≡ Some m) × (n.outer_offset ≡ m.start)
 
-plain_deep : (v : Raw) → ((names : KeyTexts) (outer : Option ℕ) (at : ℕ) (s : Step) (x : Path)
-    → node_in names outer at v (s ∷ x) ≡ None) → DeepIn v
-plain_deep v plain names outer at [] n is some = absurd (false≢true (sym some))
-plain_deep v plain names outer at (s ∷ x) n is some = absurd (cc (plain names outer at s x))
-
 mutual
   deep_in : (v : Raw) → value_clashes v ≡ false → value_keyed v ≡ true → DeepIn v
-  deep_in (Raw.integer z) free keyed names outer at x n is some =
-      plain_deep (Raw.integer z) plain names outer at x n is some
-    where
-      plain : (names : KeyTexts) (outer : Option ℕ) (at : ℕ) (s : Step) (x : Path)
-          → node_in names outer at (Raw.integer z) (s ∷ x) ≡ None
-      plain names outer at (key k) x = refl
-      plain names outer at (number i) x = refl
-  deep_in (Raw.float z) free keyed names outer at x n is some =
-      plain_deep (Raw.float z) plain names outer at x n is some
-    where
-      plain : (names : KeyTexts) (outer : Option ℕ) (at : ℕ) (s : Step) (x : Path)
-          → node_in names outer at (Raw.float z) (s ∷ x) ≡ None
-      plain names outer at (key k) x = refl
-      plain names outer at (number i) x = refl
-  deep_in (Raw.boolean z) free keyed names outer at x n is some =
-      plain_deep (Raw.boolean z) plain names outer at x n is some
-    where
-      plain : (names : KeyTexts) (outer : Option ℕ) (at : ℕ) (s : Step) (x : Path)
-          → node_in names outer at (Raw.boolean z) (s ∷ x) ≡ None
-      plain names outer at (key k) x = refl
-      plain names outer at (number i) x = refl
-  deep_in (Raw.string z c) free keyed names outer at x n is some =
-      plain_deep (Raw.string z c) plain names outer at x n is some
-    where
-      plain : (names : KeyTexts) (outer : Option ℕ) (at : ℕ) (s : Step) (x : Path)
-          → node_in names outer at (Raw.string z c) (s ∷ x) ≡ None
-      plain names outer at (key k) x = refl
-      plain names outer at (number i) x = refl
-  deep_in (Raw.array es) free keyed names outer at [] n is some = absurd (false≢true (sym some))
-  deep_in (Raw.array es) free keyed names outer at (key k ∷ x) n is some = absurd (cc)
   deep_in (Raw.array es) free keyed names outer at (number i ∷ x) n is some =
       let m = deep_among es free keyed names outer i x n is some in
       (m.0, ap (λ b. node_in names outer at (Raw.array es) (if b then [] else number i ∷ around x)) some ∙ m.1, m.2)
-  deep_in (Raw.inline rows) free keyed names outer at [] n is some = absurd (false≢true (sym some))
-  deep_in (Raw.inline rows) free keyed names outer at (number i ∷ x) n is some = absurd (cc)
   deep_in (Raw.inline rows) free keyed names outer at (key k ∷ x) n is some =
       of_inline names outer at rows k x n
       (found (holder_in (Some at) rows) (key k ∷ x) (lines_of [] (λ ks. names) rows) (rows_apart (λ ks. names) rows free)
       (rows_sound [] (λ ks. names) rows free keyed) (no_base (λ ks. names) rows (key k) x) n
       (sym (by_lines names (Some at) rows rows (key k ∷ x)) ∙ is))
+  deep_in v free keyed names outer at [] n is some = absurd (false≢true (sym some))
+  deep_in v free keyed names outer at (key k ∷ x) n is some = absurd (cc)
+  deep_in v free keyed names outer at (number i ∷ x) n is some = absurd (cc)
 
   deep_among : (es : Elements) → elements_clash es ≡ false → elements_keyed es ≡ true → DeepAmong es
   deep_among no_elements free keyed names outer i x n is some = absurd (cc)
@@ -232,29 +192,20 @@ all_sound (l ∷ ls) free keyed =
 overlap_barred : (p q : Path) (d c : Data) → overlap p q ≡ true → bars p (Some d) q (Some c) ≡ true
 overlap_barred [] q d c e = refl
 overlap_barred (s ∷ p) [] d c e = refl
-overlap_barred (s ∷ p) (t ∷ q) d c e = go (step_eq s t) refl e (λ e. overlap_barred p q d c e)
-  where
-    go : (b : Bool) → step_eq s t ≡ b
-        → ((step_eq s t && begins p q) || (step_eq t s && begins q p)) ≡ true
-        → (overlap p q ≡ true → bars p (Some d) q (Some c) ≡ true)
-        → cond (step_eq s t) (bars p (Some d) q (Some c)) (not (same_kind s t)) ≡ true
-    go true x e ih =
-        let back : step_eq t s ≡ true = turn_eq t s ∙ x in
-        let both : overlap p q ≡ true =
-        sym (ap (λ b. (b && begins p q) || (step_eq t s && begins q p)) x
-        ∙ ap (λ b. begins p q || (b && begins q p)) back) ∙ e in
-        rw x (ih both)
-    go false x e ih =
-        let back : step_eq t s ≡ false = turn_eq t s ∙ x in
-        absurd (false≢true (sym (ap (λ b. (b && begins p q) || (step_eq t s && begins q p)) x
-        ∙ ap (λ b. b && begins q p) back) ∙ e))
+overlap_barred (s ∷ p) (t ∷ q) d c e = elim (cases_Bool (step_eq s t)) [
+  | inl x ↦
+      let back : step_eq t s ≡ true = turn_eq t s ∙ x in
+      rw x (overlap_barred p q d c (sym (ap (λ b. (b && begins p q) || (step_eq t s && begins q p)) x
+      ∙ ap (λ b. begins p q || (b && begins q p)) back) ∙ e))
+  | inr x ↦
+      let back : step_eq t s ≡ false = turn_eq t s ∙ x in
+      absurd (false≢true (sym (ap (λ b. (b && begins p q) || (step_eq t s && begins q p)) x
+      ∙ ap (λ b. b && begins q p) back) ∙ e))
+]
 
 not_overlap : (p q : Path) (d c : Data) → bars p (Some d) q (Some c) ≡ false → overlap p q ≡ false
-not_overlap p q d c free = go (overlap p q) refl
-  where
-    go : (b : Bool) → overlap p q ≡ b → b ≡ false
-    go true e = absurd (false≢true (sym free ∙ overlap_barred p q d c e))
-    go false e = refl
+not_overlap p q d c free =
+    false_from_ne_true (overlap p q) (λ e. false≢true (sym free ∙ overlap_barred p q d c e))
 
 free_rows : (e : Line) (d : Data) (base : Path) (name : List Key → KeyTexts) (rows : Rows) (ms : List Mention)
     (es : List Line) → (list_any (barred_by (mention (path_of e) (Some d))) ms ≡ false → list_any (meets e) es ≡ false)

@@ -1,7 +1,7 @@
 -- What headers made, as the tree has it and as the section list foretells it.
-use Rattle.std.proofs.Common.{◌≡◌, ◌⊎◌, inl, inr, ◌==◌, ℕ, Bool, true, false, List, [], ◌∷◌, Option, Some, refl, ap}
+use Rattle.std.proofs.Common.{◌≡◌, inl, inr, ◌==◌, ℕ, Bool, true, false, List, [], ◌∷◌, Option, Some, refl, ap}
 use Rattle.std.proofs.Common.{sym, ◌∙◌, map, codes}
-use Rattle.std.specs.Prelude.{◌||◌, if◌then◌else◌, IfSome}
+use Rattle.std.specs.Prelude.{◌||◌, if◌then◌else◌}
 use Rattle.std.specs.Borrow.{Bor}
 use Rattle.std.proofs.lemmas.Bool.{false≢true, or_left, or_right}
 use Rattle.basic_toml_grammar.specs.Sections.{Section}
@@ -23,17 +23,18 @@ use Rattle.basic_toml_tree.specs.declared.spot.Spot.TheVariants as spots
 use Rattle.basic_toml_grow.specs.Item.{item_trie, table_trie}
 use Rattle.basic_toml_tree.specs.Headers.{last_of}
 use Rattle.basic_toml_tree.specs.HeaderTables.{table_of}
-use Rattle.basic_toml_tree.specs.Origin.{spot_is_made, is_made, spot_name, name_of, holds_tables, item_name, last_at}
-use Rattle.basic_toml_tree.specs.Origin.{start_of, outer_of, offset_of, is_array_literal, spot_is_borrowed, is_borrowed}
-use Rattle.basic_toml_tree.specs.Origin.{holds_string}
+use Rattle.basic_toml_tree.specs.Origin.{spot_is_made, is_made, spot_name, holds_tables, item_name, last_at}
+use Rattle.basic_toml_tree.specs.Origin.{spot_is_borrowed, holds_string}
 use Rattle.basic_toml_tree.specs.FirstStop.{Stands, only_root}
 use Rattle.basic_toml_tree.specs.Resolve.{head}
 use Rattle.basic_toml_tree.specs.Stands.{trie_at, tree_trie, spot_trie, wraps_table, is_wrapper, is_root, IsNodeAt}
+use Rattle.basic_toml_tree.specs.Stands.{StandsAt}
 use Rattle.basic_toml_tree.specs.Outer.{stands_made}
 use Rattle.basic_toml_tree.proofs.HeadersMake.{made_is, array_is}
 use Rattle.basic_toml_grow.proofs.ItemTries.{table_entries_trie}
 use Rattle.basic_toml_grow.proofs.ItemsStand.{item_standing, stands_array, standing_here}
 use Rattle.basic_toml_tree.proofs.Nodes.NodesStand.{tells_table}
+use Rattle.basic_toml_tree.specs.declared.tree.Tree.{Tree}
 
 same_way : (p : Path) (t : Trie) → trie_at p t ≡ descend p t
 same_way [] t = refl
@@ -97,16 +98,7 @@ item_made count b (Item-F.Sections tables) o is stands same own made = record {
 }
 item_made count b (Item-F.Table t) o is stands same own made = cc
 item_made count b (Item-F.Section z) o is stands same own made = cc
-item_made count b (Item-F.Integer z) o is stands same own made = absurd (false≢true (sym (ap stands_made stands) ∙ made))
-item_made count b (Item-F.Float z) o is stands same own made = absurd (false≢true (sym (ap stands_made stands) ∙ made))
-item_made count b Item-F.True o is stands same own made = absurd (false≢true (sym (ap stands_made stands) ∙ made))
-item_made count b Item-F.False o is stands same own made = absurd (false≢true (sym (ap stands_made stands) ∙ made))
-item_made count b (Item-F.String z) o is stands same own made = absurd (false≢true (sym (ap stands_made stands) ∙ made))
-item_made count b (Item-F.Escaped z) o is stands same own made = absurd (false≢true (sym (ap stands_made stands) ∙ made))
-item_made count b (Item-F.Array z) o is stands same own made = absurd (false≢true (sym (ap stands_made stands) ∙ made))
-item_made count b (Item-F.Plain z) o is stands same own made = absurd (false≢true (sym (ap stands_made stands) ∙ made))
-item_made count b (Item-F.Rows z) o is stands same own made = absurd (false≢true (sym (ap stands_made stands) ∙ made))
-item_made count b (Item-F.Inline z) o is stands same own made = absurd (false≢true (sym (ap stands_made stands) ∙ made))
+item_made count b x o is stands same own made = absurd (false≢true (sym (ap stands_made stands) ∙ made))
 
 table_made : (count : ℕ) (b : HeaderTable)
     → ((count == 0) || stands_made (standing (table_trie (table_of b)))) ≡ true
@@ -131,20 +123,9 @@ spot_made count (spots.Plain b) own made = absurd (false≢true made)
 
 not_table : (x : Item-F Item Child Table) (o : Option Standing) → item_standing x o → is_wrapper x ≡ false
     → (p n d : Bool) → o ≡ Some (table p n d) → ⊥
-not_table (Item-F.Integer z) o stands own p n d is = absurd (cc)
-not_table (Item-F.Float z) o stands own p n d is = absurd (cc)
-not_table Item-F.True o stands own p n d is = absurd (cc)
-not_table Item-F.False o stands own p n d is = absurd (cc)
-not_table (Item-F.String z) o stands own p n d is = absurd (cc)
-not_table (Item-F.Escaped z) o stands own p n d is = absurd (cc)
-not_table (Item-F.Array z) o stands own p n d is = absurd (cc)
-not_table (Item-F.Plain z) o stands own p n d is = absurd (cc)
-not_table (Item-F.Rows z) o stands own p n d is = absurd (cc)
-not_table (Item-F.Inline z) o stands own p n d is = absurd (cc)
-not_table (Item-F.Table t) o stands own p n d is = absurd (cc)
-not_table (Item-F.Section z) o stands own p n d is = absurd (cc)
 not_table (Item-F.Tables tables) o stands own p n d is = absurd (false≢true (sym (ap stands_array is) ∙ stands))
 not_table (Item-F.Sections tables) o stands own p n d is = absurd (false≢true (sym (ap stands_array is) ∙ stands))
+not_table x o stands own p n d is = absurd (cc)
 
 pub root_made : (count : ℕ) (spot : Spot) (t : Table) → wraps_table spot ≡ false → (count == 0) ≡ true
     → spot_trie spot ≡ table_trie t → IsMade count spot
@@ -158,6 +139,25 @@ root_made count (spots.Plain b) t own none same = absurd (no_value (ap standing 
     no_value : {p n d : Bool} → Some value ≡ Some (table p n d) → ⊥
     no_value e = absurd (cc)
 
+-- a node that stands at the root of a tree, and where the trie of the tree has what headers made
+module _ (tree : Tree) (node : Node) (p : Path) (stands : StandsAt tree p node) where
+  pub root_at : p ≡ [] → IsMade node.count node.spot × (spot_trie node.spot ≡ trie_at p (tree_trie tree))
+  root_at is =
+      let here : trie_at p (tree_trie tree) ≡ table_trie tree.root = ap (λ p. trie_at p (tree_trie tree)) is in
+      let table : tells_table (table_trie tree.root) ≡ true = ap tells_table (table_entries_trie tree.root) in
+      elim stands.there [
+        | inl none ↦ absurd (false≢true (sym (ap tells_table (sym here ∙ none)) ∙ table))
+        | inr there ↦
+            (root_made node.count node.spot tree.root there.1 (stands.root ∙ ap is_root is) (there.0 ∙ here), there.0)
+      ]
+
+  pub table_at : stands_made (standing (trie_at p (tree_trie tree))) ≡ true
+      → IsMade node.count node.spot × (spot_trie node.spot ≡ trie_at p (tree_trie tree))
+  table_at made = elim stands.there [
+    | inl none ↦ absurd (false≢true (sym (ap (λ t. stands_made (standing t)) none) ∙ made))
+    | inr there ↦ (spot_made node.count node.spot there.1 (ap (λ t. stands_made (standing t)) there.0 ∙ made), there.0)
+  ]
+
 -- a node that headers made
 module _ (sections : List Section) (node : Node) where
   abbrev pub told : Path → Type 0
@@ -165,94 +165,30 @@ module _ (sections : List Section) (node : Node) where
       × (stands_array (standing (spot_trie node.spot)) ≡ grammar.is_array (located sections) p)
 
   pub is_told : (p : Path) → IsNodeAt sections p node → grammar.is_made (located sections) p ≡ true → told p
-  is_told p is made = go p is.stands.there made is.stands.root
-    where
-      t : Trie
-      t = tree_trie node.tree.now
-
-      arrays : (p : Path) → spot_trie node.spot ≡ trie_at p t
-          → stands_array (standing (spot_trie node.spot)) ≡ grammar.is_array (located sections) p
-      arrays p same =
-          ap (λ t. stands_array (standing t)) same ∙ sym (array_in_trie sections t is.resolved.stands p)
-
-      go : (p : Path) → (trie_at p t ≡ nothing) ⊎ ((spot_trie node.spot ≡ trie_at p t) × (wraps_table node.spot ≡ false))
-          → grammar.is_made (located sections) p ≡ true → (node.count == 0) ≡ is_root p → told p
-      go [] (inl none) made root =
-          let table : tells_table (table_trie node.tree.now.root) ≡ true =
-          ap tells_table (table_entries_trie node.tree.now.root) in
-          absurd (false≢true (sym (ap tells_table none) ∙ table))
-      go [] (inr there) made root =
-          (root_made node.count node.spot node.tree.now.root there.1 root there.0, arrays [] there.0)
-      go (s ∷ p) (inl none) made root =
-          absurd (false≢true (sym (made_in_trie sections t is.resolved.stands s p
-          ∙ ap (λ t. stands_made (standing t)) none) ∙ made))
-      go (s ∷ p) (inr there) made root = (
-        spot_made node.count node.spot there.1
-            (ap (λ t. stands_made (standing t)) there.0 ∙ sym (made_in_trie sections t is.resolved.stands s p) ∙ made),
-        arrays (s ∷ p) there.0,
+  is_told p is made =
+      let there = at p is.stands made in (
+        there.0,
+        ap (λ t. stands_array (standing t)) there.1 ∙ sym (array_in_trie sections whole is.resolved.stands p),
       )
+    where
+      whole : Trie
+      whole = tree_trie node.tree.now
+
+      at : (p : Path) → StandsAt node.tree.now p node → grammar.is_made (located sections) p ≡ true
+          → IsMade node.count node.spot × (spot_trie node.spot ≡ trie_at p whole)
+      at [] stands made = root_at node.tree.now node [] stands refl
+      at (s ∷ p) stands made =
+          table_at node.tree.now node (s ∷ p) stands
+          (sym (made_in_trie sections whole is.resolved.stands s p) ∙ made)
 
 last_in : (sections : List Section) → last_of (map head sections) ≡ grammar.last_at sections
 last_in [] = refl
 last_in (s ∷ []) = refl
 last_in (s ∷ t ∷ sections) = last_in (t ∷ sections)
 
--- what is said of a node, if the section list foretells one
-abbrev pub ForetoldWhere : List Section → Path → Node → (grammar.Node → Type 0) → Type 0
-ForetoldWhere sections p node says = IsNodeAt sections p node → IfSome (grammar.node_at sections p) says
-
--- what is said of a node that headers made
-abbrev pub ForetoldMade : List Section → Path → Node → (grammar.Node → Type 0) → Type 0
-ForetoldMade sections p node says =
-    IsNodeAt sections p node → grammar.is_made (located sections) p ≡ true → IfSome (grammar.node_at sections p) says
-
-pub foretold : (sections : List Section) (p : Path) (node : Node) (P : grammar.Node → Type 0)
-    → (IsNodeAt sections p node → grammar.is_made (located sections) p ≡ true
-    → P (grammar.made_node (located sections) (grammar.last_at sections) p))
-    → ForetoldMade sections p node P
-foretold sections p node P told is made = rw made (told is made)
-
 pub last_same : (sections : List Section) (p : Path) (node : Node) → IsNodeAt sections p node
     → last_at node.tree.now ≡ grammar.last_at sections
 last_same sections p node is = ap last_of is.resolved.heads ∙ last_in sections
-
--- its name, where it begins, the offset around it and the one that names it are as they are foretold
-pub made_name_told : (name : List ℕ) (node : Node) → name ≡ name_of node → (sections : List Section) (p : Path)
-    → ForetoldMade sections p node (λ found. name ≡ found.type_name)
-unfolding name_of
-made_name_told name node same sections p = foretold sections p node (λ found. name ≡ found.type_name)
-    (λ is made. let told = is_told sections node p is made in same ∙ told.0.name ∙ ap made_name told.1)
-
-pub made_slice_told : (slice : Bool) (node : Node) → slice ≡ is_borrowed node → (sections : List Section) (p : Path)
-    → ForetoldMade sections p node (λ found. slice ≡ found.is_slice)
-made_slice_told slice node same sections p = foretold sections p node (λ found. slice ≡ found.is_slice)
-    (λ is made. same ∙ (is_told sections node p is made).0.slice)
-
-pub made_start_told : (start : Option ℕ) (node : Node) → start ≡ start_of node → (sections : List Section) (p : Path)
-    → ForetoldMade sections p node (λ found. start ≡ found.start)
-unfolding start_of
-made_start_told start node same sections p = foretold sections p node (λ found. start ≡ found.start)
-    (λ is made. let told = is_told sections node p is made in
-    same ∙ ap (λ b. if b then last_at node.tree.now else Some node.start) told.0.made
-    ∙ last_same sections p node is)
-
-pub made_outer_told : (outer : Option ℕ) (node : Node) → outer ≡ outer_of node → (sections : List Section) (p : Path)
-    → ForetoldMade sections p node (λ found. outer ≡ found.outer_offset)
-unfolding outer_of
-made_outer_told outer node same sections p = foretold sections p node (λ found. outer ≡ found.outer_offset)
-    (λ is made. let told = is_told sections node p is made in
-    same ∙ rw (told.0.made) (last_same sections p node is))
-
-pub made_offset_told : (offset : Option ℕ) (node : Node) → offset ≡ offset_of node → (sections : List Section) (p : Path)
-    → ForetoldMade sections p node (λ found. offset ≡ found.offset)
-unfolding offset_of start_of outer_of
-made_offset_told offset node same sections p = foretold sections p node (λ found. offset ≡ found.offset)
-    (λ is made. let told = is_told sections node p is made in
-    same ∙ rw (told.0.made) (go (is_array_literal node.spot) ∙ last_same sections p node is))
-  where
-    go : (b : Bool) → (if b then last_at node.tree.now else last_at node.tree.now) ≡ last_at node.tree.now
-    go true = refl
-    go false = refl
 
 pub made_told : (made : Bool) (node : Node) → made ≡ is_made node → (sections : List Section) (p : Path)
     → IsNodeAt sections p node → grammar.is_made (located sections) p ≡ true → made ≡ true

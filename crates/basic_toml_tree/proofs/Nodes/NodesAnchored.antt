@@ -126,18 +126,7 @@ module _ (sections : List Section) (p : Path) (node : Node) (is : IsNodeAt secti
       go (Item-F.Sections tables) e =
           array (Item-F.Sections tables) tables.value.1.0 e refl refl
           (subst (λ x. item_standing x (standing (item_trie b.now))) e (standing_here b.now))
-      go (Item-F.Integer z) e = of_value (made (Item-F.Integer z) e)
-      go (Item-F.Float z) e = of_value (made (Item-F.Float z) e)
-      go Item-F.True e = of_value (made Item-F.True e)
-      go Item-F.False e = of_value (made Item-F.False e)
-      go (Item-F.String z) e = of_value (made (Item-F.String z) e)
-      go (Item-F.Escaped z) e = of_value (made (Item-F.Escaped z) e)
-      go (Item-F.Array z) e = of_value (made (Item-F.Array z) e)
-      go (Item-F.Plain z) e = of_value (made (Item-F.Plain z) e)
-      go (Item-F.Rows z) e = of_value (made (Item-F.Rows z) e)
-      go (Item-F.Inline z) e = of_value (made (Item-F.Inline z) e)
-      go (Item-F.Table z) e = of_value (made (Item-F.Table z) e)
-      go (Item-F.Section z) e = of_value (made (Item-F.Section z) e)
+      go x e = of_value (made x e)
 
   by_spot : (spot : Spot) → node.spot ≡ spot → IsAnchorOf sections p (spot_anchor spot node.start node.count)
   by_spot (spots.Table b) at = of_table b at

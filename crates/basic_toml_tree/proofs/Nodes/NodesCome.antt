@@ -1,11 +1,12 @@
 -- A node comes from what the origins in the tree tell at its path.
-use Rattle.std.proofs.Common.{◌≡◌, ◌==◌, ℕ, zero, suc, Bool, true, false, List, [], ◌∷◌, ◌++◌, Option, Some, None}
+use Rattle.std.proofs.Common.{◌≡◌, ◌==◌, ℕ, Bool, true, false, List, [], ◌∷◌, ◌++◌, Option, Some, None}
 use Rattle.std.proofs.Common.{refl, ap, sym, ◌∙◌}
 use Rattle.std.proofs.Common.{subst, map, rules, slice_get, option_map, append_assoc, codes, Vec, Box, Global}
 use Rattle.std.specs.Prelude.{IfSome, ⊤, ◌||◌, if◌then◌else◌}
 use Rattle.std.specs.Borrow.{Bor}
 use Rattle.std.proofs.Math.Path.{fun_ext}
 use Rattle.std.proofs.lemmas.Bool.{false≢true}
+use Rattle.std.proofs.lemmas.Option.{IfSome_then}
 use Rattle.basic_toml_value.specs.Pairs.{value_at}
 use Rattle.basic_toml_grammar.specs.Steps.{Step, key, number, Path}
 use Rattle.basic_toml_plain.specs.Plain.{are_few_simple}
@@ -25,18 +26,17 @@ use Rattle.basic_toml_tree.specs.declared.spot.HeaderTable.{HeaderTable}
 use Rattle.basic_toml_tree.specs.declared.spot.Spot.{Spot}
 use Rattle.basic_toml_tree.specs.declared.spot.Spot.TheVariants as spots
 use Rattle.basic_toml_tree.specs.HeaderTables.{table_of}
-use Rattle.basic_toml_tree.specs.Origin.{spot_is_made, spot_section, holds_tables, item_name, item_section, table_is_made}
-use Rattle.basic_toml_tree.specs.Origin.{holds_string}
+use Rattle.basic_toml_tree.specs.Origin.{spot_is_made, spot_section, holds_tables, item_name, item_section}
+use Rattle.basic_toml_tree.specs.Origin.{table_is_made, holds_string}
 use Rattle.basic_toml_grow.specs.Origins.{Origin, Origins, no_origins, entry, under, at_numbers, value_origin}
-use Rattle.basic_toml_grow.specs.Origins.{string_origin}
 use Rattle.basic_toml_grow.specs.Origins.{table_origin, array_origin, elements_within, item_origins, child_origins}
 use Rattle.basic_toml_grow.specs.Origins.{of_table, section_in, table_within}
 use Rattle.basic_toml_tree.specs.Stands.{ItemHolds, HoldsTable, spot_origins, node_origins, spot_origin, SpotComes}
 use Rattle.basic_toml_tree.specs.Stands.{ComesFrom, tree_origins}
 use Rattle.basic_toml_grow.proofs.ItemsStand.{shape}
 use Rattle.basic_toml_grow.proofs.SectionTables.{section_origins}
-use Rattle.basic_toml_grow.proofs.Origins.OriginsSeen.{child_seen, made_seen, section_seen, table_origins, table_item_seen}
-use Rattle.basic_toml_grow.proofs.Origins.OriginsSeen.{array_seen, seen_at_key, seen_at_none}
+use Rattle.basic_toml_grow.proofs.Origins.OriginsSeen.{child_seen, made_seen, section_seen, table_origins}
+use Rattle.basic_toml_grow.proofs.Origins.OriginsSeen.{table_item_seen, array_seen, seen_at_key, seen_at_none}
 
 -- one step on from a node
 pub comes_on : (from node : Node) (s : Step) (tree : Tree) (p : Path)
@@ -51,33 +51,16 @@ comes_on from node s tree p comes on =
 item_key : (x : Item-F Item Child Table) (i : Item) (t : Table) (k : List ℕ) (q : Path) (at s : ℕ) → out-Item i ≡ x
     → ItemHolds x t → item_origins i at s (key k ∷ q) ≡ table_origins t (key k ∷ q)
 item_key (Item-F.Table b) i t k q at s is holds =
-    ap (λ i. item_origins i at s (key k ∷ q)) (shape i (Item-F.Table b) is)
-    ∙ ap (λ f. f (key k ∷ q)) (made_table b at s)
+    let made : item_origins (roll-Item (Item-F.Table b)) at s ≡ of_table at s (table_within b.value) =
+    search (rules, the_lemmas) in
+    ap (λ i. item_origins i at s (key k ∷ q)) (shape i (Item-F.Table b) is) ∙ ap (λ f. f (key k ∷ q)) made
     ∙ ap (λ t. table_origins t (key k ∷ q)) (sym holds)
-  where
-    made_table : (b : Box Table Global) (at s : ℕ) → item_origins (roll-Item (Item-F.Table b)) at s
-        ≡ of_table at s (table_within b.value)
-    made_table b at s = search (rules, the_lemmas)
 item_key (Item-F.Inline b) i t k q at s is holds =
-    ap (λ i. item_origins i at s (key k ∷ q)) (shape i (Item-F.Inline b) is)
-    ∙ ap (λ f. f (key k ∷ q)) (made_inline b at s)
+    let made : item_origins (roll-Item (Item-F.Inline b)) at s
+    ≡ entry (value_origin (codes "inline table") at s) (table_origins b.value) = search (rules, the_lemmas) in
+    ap (λ i. item_origins i at s (key k ∷ q)) (shape i (Item-F.Inline b) is) ∙ ap (λ f. f (key k ∷ q)) made
     ∙ ap (λ t. table_origins t (key k ∷ q)) (sym holds)
-  where
-    made_inline : (b : Box Table Global) (at s : ℕ) → item_origins (roll-Item (Item-F.Inline b)) at s
-        ≡ entry (value_origin (codes "inline table") at s) (table_origins b.value)
-    made_inline b at s = search (rules, the_lemmas)
-item_key (Item-F.Integer z) i t k q at s is holds = absurd holds
-item_key (Item-F.Float z) i t k q at s is holds = absurd holds
-item_key Item-F.True i t k q at s is holds = absurd holds
-item_key Item-F.False i t k q at s is holds = absurd holds
-item_key (Item-F.String z) i t k q at s is holds = absurd holds
-item_key (Item-F.Escaped z) i t k q at s is holds = absurd holds
-item_key (Item-F.Array z) i t k q at s is holds = absurd holds
-item_key (Item-F.Plain z) i t k q at s is holds = absurd holds
-item_key (Item-F.Rows z) i t k q at s is holds = absurd holds
-item_key (Item-F.Section z) i t k q at s is holds = absurd holds
-item_key (Item-F.Tables y) i t k q at s is holds = absurd holds
-item_key (Item-F.Sections y) i t k q at s is holds = absurd holds
+item_key x i t k q at s is holds = absurd holds
 
 spot_key : (spot : Spot) (t : Table) (k : List ℕ) (q : Path) (at s : ℕ) → HoldsTable spot t
     → spot_origins spot at s (key k ∷ q) ≡ table_origins t (key k ∷ q)
@@ -92,57 +75,6 @@ key_origins from t k c holds found s q =
     spot_key from.spot t k q from.start s holds ∙ seen_at_key t k q
     ∙ ap (λ o. under (option_map child_origins o) q) found
 
--- of what rows made, the section that first mentioned it
-abbrev Bears : ℕ → Origins → Type 0
-Bears s f = IfSome (f []) (λ o. o.made ≡ false → o.section ≡ s)
-
-bears_entry : (x : Item-F Item Child Table) (at s : ℕ) (o : Origin) (f : Origins)
-    → item_origins (roll-Item x) at s ≡ entry o f → (o.made ≡ false → o.section ≡ s)
-    → Bears s (item_origins (roll-Item x) at s)
-bears_entry x at s o f is same = subst (Bears s) (sym is) same
-
-item_bears : (x : Item-F Item Child Table) (at s : ℕ) → Bears s (item_origins (roll-Item x) at s)
-item_bears (Item-F.Integer z) at s = bears_entry (Item-F.Integer z) at s (value_origin (codes "integer") at s) no_origins
-    (search (rules, the_lemmas)) (λ apart. refl)
-item_bears (Item-F.Float z) at s = bears_entry (Item-F.Float z) at s (value_origin (codes "float") at s) no_origins
-    (search (rules, the_lemmas)) (λ apart. refl)
-item_bears Item-F.True at s = bears_entry Item-F.True at s (value_origin (codes "boolean") at s) no_origins
-    (search (rules, the_lemmas)) (λ apart. refl)
-item_bears Item-F.False at s = bears_entry Item-F.False at s (value_origin (codes "boolean") at s) no_origins
-    (search (rules, the_lemmas)) (λ apart. refl)
-item_bears (Item-F.String z) at s = bears_entry (Item-F.String z) at s (string_origin false at s) no_origins
-    (search (rules, the_lemmas)) (λ apart. refl)
-item_bears (Item-F.Escaped z) at s = bears_entry (Item-F.Escaped z) at s (string_origin true at s) no_origins
-    (search (rules, the_lemmas)) (λ apart. refl)
-item_bears (Item-F.Array z) at s = bears_entry (Item-F.Array z) at s (value_origin (codes "array") at s)
-    (at_numbers (map child_origins z.items)) (search (rules, the_lemmas)) (λ apart. refl)
-item_bears (Item-F.Plain z) at s = bears_entry (Item-F.Plain z) at s (value_origin (codes "array") at s)
-    (at_numbers (elements_origins s (elements_view z))) (search (rules, the_lemmas)) (λ apart. refl)
-item_bears (Item-F.Rows z) at s = bears_entry (Item-F.Rows z) at s (value_origin (codes "inline table") at s)
-    (rows_origins s (rows_seen [] z)) (search (rules, the_lemmas)) (λ apart. refl)
-item_bears (Item-F.Inline z) at s = bears_entry (Item-F.Inline z) at s (value_origin (codes "inline table") at s)
-    (table_origins z.value) (search (rules, the_lemmas)) (λ apart. refl)
-item_bears (Item-F.Table z) at s =
-    let w = table_within z.value in
-    bears_entry (Item-F.Table z) at s (table_origin w.made at (section_in w s)) w.below (search (rules, the_lemmas))
-    (λ apart. ap (λ b. if b then w.section else s) apart)
-item_bears (Item-F.Section z) at s = bears_entry (Item-F.Section z) at s (table_origin true at s)
-    (rows_origins s (rows_seen [] z)) (search (rules, the_lemmas)) (λ apart. refl)
-item_bears (Item-F.Tables y) at s = bears_entry (Item-F.Tables y) at s (array_origin at (table_within y.value.1).section)
-    (at_numbers (elements_within at s (map table_within y.value.0.items ++ table_within y.value.1 ∷ [])))
-    (search (rules, the_lemmas)) (λ apart. absurd (false≢true (sym apart)))
-item_bears (Item-F.Sections y) at s = bears_entry (Item-F.Sections y) at s (array_origin at y.value.1.0)
-    (at_numbers (map (rows_from at) y.value.0 ++ rows_from at y.value.1 ∷ []))
-    (search (rules, the_lemmas)) (λ apart. absurd (false≢true (sym apart)))
-
-pub child_bears : (c : Child) → Bears (out-Child c).section (child_origins c)
-child_bears c =
-    let from = (out-Child c).start in
-    let s = (out-Child c).section in
-    let i = (out-Child c).item in
-    subst (Bears s) (sym (child_seen c ∙ ap (λ i. item_origins i from s) (shape i (out-Item i) refl)))
-    (item_bears (out-Item i) from s)
-
 -- of what headers made, the section whose header is the latest that leads there
 abbrev Marked : Option ℕ → Origins → Type 0
 Marked section f = IfSome (f []) (λ o. IfSome section (λ n. o.section ≡ n))
@@ -155,35 +87,22 @@ not_marked section none f = subst (λ section. Marked section f) (sym none) (go 
     go (Some o) = tt
 
 item_marked : (x : Item-F Item Child Table) (at s : ℕ) → Marked (item_section x) (item_origins (roll-Item x) at s)
-item_marked (Item-F.Tables y) at s = subst (Marked (Some (out-Table y.value.1).section)) (sym is) (section_seen y.value.1)
-  where
-    is : item_origins (roll-Item (Item-F.Tables y)) at s ≡ entry (array_origin at (table_within y.value.1).section)
-        (at_numbers (elements_within at s (map table_within y.value.0.items ++ table_within y.value.1 ∷ [])))
-    is = search (rules, the_lemmas)
-item_marked (Item-F.Sections y) at s = subst (Marked (Some y.value.1.0)) (sym is) refl
-  where
-    is : item_origins (roll-Item (Item-F.Sections y)) at s ≡ entry (array_origin at y.value.1.0)
-        (at_numbers (map (rows_from at) y.value.0 ++ rows_from at y.value.1 ∷ []))
-    is = search (rules, the_lemmas)
-item_marked (Item-F.Integer z) at s = not_marked None refl (item_origins (roll-Item (Item-F.Integer z)) at s)
-item_marked (Item-F.Float z) at s = not_marked None refl (item_origins (roll-Item (Item-F.Float z)) at s)
-item_marked Item-F.True at s = not_marked None refl (item_origins (roll-Item Item-F.True) at s)
-item_marked Item-F.False at s = not_marked None refl (item_origins (roll-Item Item-F.False) at s)
-item_marked (Item-F.String z) at s = not_marked None refl (item_origins (roll-Item (Item-F.String z)) at s)
-item_marked (Item-F.Escaped z) at s = not_marked None refl (item_origins (roll-Item (Item-F.Escaped z)) at s)
-item_marked (Item-F.Array z) at s = not_marked None refl (item_origins (roll-Item (Item-F.Array z)) at s)
-item_marked (Item-F.Plain z) at s = not_marked None refl (item_origins (roll-Item (Item-F.Plain z)) at s)
-item_marked (Item-F.Rows z) at s = not_marked None refl (item_origins (roll-Item (Item-F.Rows z)) at s)
-item_marked (Item-F.Inline z) at s = not_marked None refl (item_origins (roll-Item (Item-F.Inline z)) at s)
-item_marked (Item-F.Table z) at s = not_marked None refl (item_origins (roll-Item (Item-F.Table z)) at s)
-item_marked (Item-F.Section z) at s = not_marked None refl (item_origins (roll-Item (Item-F.Section z)) at s)
+item_marked (Item-F.Tables y) at s =
+    let is : item_origins (roll-Item (Item-F.Tables y)) at s ≡ entry (array_origin at (table_within y.value.1).section)
+    (at_numbers (elements_within at s (map table_within y.value.0.items ++ table_within y.value.1 ∷ []))) =
+    search (rules, the_lemmas) in
+    subst (Marked (Some (out-Table y.value.1).section)) (sym is) (section_seen y.value.1)
+item_marked (Item-F.Sections y) at s =
+    let is : item_origins (roll-Item (Item-F.Sections y)) at s ≡ entry (array_origin at y.value.1.0)
+    (at_numbers (map (rows_from at) y.value.0 ++ rows_from at y.value.1 ∷ [])) = search (rules, the_lemmas) in
+    subst (Marked (Some y.value.1.0)) (sym is) refl
+item_marked x at s = not_marked None refl (item_origins (roll-Item x) at s)
 
 pub key_comes : (from node : Node) (t : Table) (k : List ℕ) (c : Child) → HoldsTable from.spot t
     → value_at (out-Table t).entries k ≡ Some c → ComesFrom (child_origins c) node
     → (s : ℕ) → ComesFrom (λ q. node_origins s from (key k ∷ q)) node
 key_comes from node t k c holds found comes s =
-    subst (λ f. ComesFrom f node) (fun_ext (λ q. sym (spot_key from.spot t k q from.start s holds
-    ∙ seen_at_key t k q ∙ ap (λ o. under (option_map child_origins o) q) found))) comes
+    subst (λ f. ComesFrom f node) (fun_ext (λ q. sym (key_origins from t k c holds found s q))) comes
 
 -- at a number of an array
 pub literal_comes : (from node : Node) (n : ℕ) (b : Bor Item) → from.spot ≡ spots.Item b
@@ -195,12 +114,6 @@ literal_comes from node n b at children child is read comes s =
     ∙ ap (λ i. item_origins i from.start s (number n ∷ q)) is
     ∙ ap (λ f. f (number n ∷ q)) (array_seen children from.start s)
     ∙ ap (λ o. under o q) read))) comes
-
-module _ {A B : Type 0} (f : A → B) where
-  pub read_mapped : (xs : List A) (n : ℕ) (x : A) → slice_get xs n ≡ Some x → slice_get (map f xs) n ≡ Some (f x)
-  read_mapped [] n x read = absurd (cc)
-  read_mapped (y ∷ ys) zero x read = let same : y ≡ x = cc in ap (λ y. Some (f y)) same
-  read_mapped (y ∷ ys) (suc n) x read = read_mapped ys n x read
 
 -- the root, of which nothing is told
 pub root_comes : (tree : Tree) (b : HeaderTable) (at : ℕ) → table_of b ≡ tree.root
@@ -280,7 +193,7 @@ child_section_comes c rows b count is simple same some =
     subst (λ f. SpotComes f count (spots.Table b) from) (sym seen)
     (table_comes (section_table s rows) b count from s same some)
 
--- an item
+-- what an item tells of itself, unless headers made it
 abbrev item_told : Item-F Item Child Table → ℕ → ℕ → Origin
 item_told x at s = record {
   made = holds_tables x;
@@ -293,59 +206,54 @@ item_told x at s = record {
 abbrev OwnIs : Origins → Origin → Type 0
 OwnIs f want = IfSome (f []) (λ o. o.made ≡ false → o ≡ want)
 
-own_of : (f : Origins) (o want : Origin) (g : Origins) → f ≡ entry o g → (o.made ≡ false → o ≡ want) → OwnIs f want
-own_of f o want g is told = subst (λ f. OwnIs f want) (sym is) told
+module _ (x : Item-F Item Child Table) (at s : ℕ) where
+  own_of : (o : Origin) (g : Origins) → item_origins (roll-Item x) at s ≡ entry o g
+      → (o.made ≡ false → o ≡ item_told x at s) → OwnIs (item_origins (roll-Item x) at s) (item_told x at s)
+  own_of o g is told = subst (λ f. OwnIs f (item_told x at s)) (sym is) told
+
+  own_value : (g : Origins) → item_origins (roll-Item x) at s ≡ entry (item_told x at s) g
+      → OwnIs (item_origins (roll-Item x) at s) (item_told x at s)
+  own_value g is = own_of (item_told x at s) g is (λ apart. refl)
 
 item_own : (x : Item-F Item Child Table) (at s : ℕ) → OwnIs (item_origins (roll-Item x) at s) (item_told x at s)
-item_own (Item-F.Integer z) at s =
-    own_of (item_origins (roll-Item (Item-F.Integer z)) at s) (value_origin (codes "integer") at s)
-    (item_told (Item-F.Integer z) at s) no_origins (search (rules, the_lemmas)) (λ apart. refl)
-item_own (Item-F.Float z) at s =
-    own_of (item_origins (roll-Item (Item-F.Float z)) at s) (value_origin (codes "float") at s)
-    (item_told (Item-F.Float z) at s) no_origins (search (rules, the_lemmas)) (λ apart. refl)
-item_own Item-F.True at s =
-    own_of (item_origins (roll-Item Item-F.True) at s) (value_origin (codes "boolean") at s)
-    (item_told Item-F.True at s) no_origins (search (rules, the_lemmas)) (λ apart. refl)
-item_own Item-F.False at s =
-    own_of (item_origins (roll-Item Item-F.False) at s) (value_origin (codes "boolean") at s)
-    (item_told Item-F.False at s) no_origins (search (rules, the_lemmas)) (λ apart. refl)
-item_own (Item-F.String z) at s =
-    own_of (item_origins (roll-Item (Item-F.String z)) at s) (string_origin false at s)
-    (item_told (Item-F.String z) at s) no_origins (search (rules, the_lemmas)) (λ apart. refl)
-item_own (Item-F.Escaped z) at s =
-    own_of (item_origins (roll-Item (Item-F.Escaped z)) at s) (string_origin true at s)
-    (item_told (Item-F.Escaped z) at s) no_origins (search (rules, the_lemmas)) (λ apart. refl)
 item_own (Item-F.Array z) at s =
-    own_of (item_origins (roll-Item (Item-F.Array z)) at s) (value_origin (codes "array") at s)
-    (item_told (Item-F.Array z) at s) (at_numbers (map child_origins z.items)) (search (rules, the_lemmas))
-    (λ apart. refl)
+    own_value (Item-F.Array z) at s (at_numbers (map child_origins z.items)) (search (rules, the_lemmas))
 item_own (Item-F.Plain z) at s =
-    own_of (item_origins (roll-Item (Item-F.Plain z)) at s) (value_origin (codes "array") at s)
-    (item_told (Item-F.Plain z) at s) (at_numbers (elements_origins s (elements_view z)))
-    (search (rules, the_lemmas)) (λ apart. refl)
+    own_value (Item-F.Plain z) at s (at_numbers (elements_origins s (elements_view z))) (search (rules, the_lemmas))
 item_own (Item-F.Rows z) at s =
-    own_of (item_origins (roll-Item (Item-F.Rows z)) at s) (value_origin (codes "inline table") at s)
-    (item_told (Item-F.Rows z) at s) (rows_origins s (rows_seen [] z)) (search (rules, the_lemmas)) (λ apart. refl)
+    own_value (Item-F.Rows z) at s (rows_origins s (rows_seen [] z)) (search (rules, the_lemmas))
 item_own (Item-F.Inline z) at s =
-    own_of (item_origins (roll-Item (Item-F.Inline z)) at s) (value_origin (codes "inline table") at s)
-    (item_told (Item-F.Inline z) at s) (table_origins z.value) (search (rules, the_lemmas)) (λ apart. refl)
+    own_value (Item-F.Inline z) at s (table_origins z.value) (search (rules, the_lemmas))
 item_own (Item-F.Table z) at s =
     let w = table_within z.value in
-    own_of (item_origins (roll-Item (Item-F.Table z)) at s) (table_origin w.made at (section_in w s))
-    (item_told (Item-F.Table z) at s) w.below (search (rules, the_lemmas))
+    own_of (Item-F.Table z) at s (table_origin w.made at (section_in w s)) w.below (search (rules, the_lemmas))
     (λ apart. ap (λ made. table_origin made at (if made then w.section else s)) apart)
 item_own (Item-F.Section z) at s =
-    own_of (item_origins (roll-Item (Item-F.Section z)) at s) (table_origin true at s)
-    (item_told (Item-F.Section z) at s) (rows_origins s (rows_seen [] z)) (search (rules, the_lemmas)) (λ apart. absurd (false≢true (sym apart)))
+    own_of (Item-F.Section z) at s (table_origin true at s) (rows_origins s (rows_seen [] z))
+    (search (rules, the_lemmas)) (λ apart. absurd (false≢true (sym apart)))
 item_own (Item-F.Tables y) at s =
-    own_of (item_origins (roll-Item (Item-F.Tables y)) at s) (array_origin at (table_within y.value.1).section)
-    (item_told (Item-F.Tables y) at s)
+    own_of (Item-F.Tables y) at s (array_origin at (table_within y.value.1).section)
     (at_numbers (elements_within at s (map table_within y.value.0.items ++ table_within y.value.1 ∷ [])))
     (search (rules, the_lemmas)) (λ apart. absurd (false≢true (sym apart)))
 item_own (Item-F.Sections y) at s =
-    own_of (item_origins (roll-Item (Item-F.Sections y)) at s) (array_origin at y.value.1.0)
-    (item_told (Item-F.Sections y) at s) (at_numbers (map (rows_from at) y.value.0 ++ rows_from at y.value.1 ∷ []))
+    own_of (Item-F.Sections y) at s (array_origin at y.value.1.0)
+    (at_numbers (map (rows_from at) y.value.0 ++ rows_from at y.value.1 ∷ []))
     (search (rules, the_lemmas)) (λ apart. absurd (false≢true (sym apart)))
+item_own x at s = own_value x at s no_origins (search (rules, the_lemmas))
+
+own_is : (i : Item) (at s : ℕ) → OwnIs (item_origins i at s) (item_told (out-Item i) at s)
+own_is i at s =
+    subst (λ j. OwnIs (item_origins j at s) (item_told (out-Item i) at s)) (sym (shape i (out-Item i) refl))
+    (item_own (out-Item i) at s)
+
+-- of what rows made, the section that first mentioned it
+pub child_bears : (c : Child)
+    → IfSome (child_origins c []) (λ o. o.made ≡ false → o.section ≡ (out-Child c).section)
+child_bears c =
+    let x = out-Child c in
+    subst (λ f. IfSome (f []) (λ o. o.made ≡ false → o.section ≡ x.section)) (sym (child_seen c))
+    (IfSome_then (item_origins x.item x.start x.section []) (own_is x.item x.start x.section)
+    (λ o own apart. ap (λ o. o.section) (own apart)))
 
 pub item_comes : (c : Child) (b : Bor Item) (count : ℕ) (spot : Spot) (at : ℕ) → b.now ≡ (out-Child c).item
     → spot ≡ spots.Item b → at ≡ (out-Child c).start → SpotComes (child_origins c) count spot at
@@ -354,13 +262,10 @@ item_comes c b count spot at is is_spot is_at =
     let s = (out-Child c).section in
     let i = b.now in
     let seen : child_origins c ≡ item_origins i from s = child_seen c ∙ ap (λ i. item_origins i from s) (sym is) in
-    let own : OwnIs (item_origins i from s) (item_told (out-Item i) from s) =
-    subst (λ j. OwnIs (item_origins j from s) (item_told (out-Item i) from s)) (sym (shape i (out-Item i) refl))
-    (item_own (out-Item i) from s) in
     let marked : Marked (item_section (out-Item i)) (item_origins i from s) =
     subst (λ j. Marked (item_section (out-Item i)) (item_origins j from s)) (sym (shape i (out-Item i) refl))
     (item_marked (out-Item i) from s) in
     subst (λ at. SpotComes (child_origins c) count spot at) (sym is_at)
     (subst (λ spot. SpotComes (child_origins c) count spot from) (sym is_spot)
     (subst (λ f. SpotComes f count (spots.Item b) from) (sym seen)
-    (record { section = s; own = own; marked = marked; parts = λ r q. refl })))
+    (record { section = s; own = own_is i from s; marked = marked; parts = λ r q. refl })))

@@ -3,7 +3,8 @@ use Rattle.std.proofs.Common.{◌≡◌, ℕ, zero, suc, Bool, true, false, [], 
 use Rattle.std.specs.Prelude.{if◌then◌else◌, IfSome}
 use Rattle.basic_toml_grammar.specs.Sections.{KeyTexts, texts, Raw, Elements, no_elements, element, Rows, no_rows, row}
 use Rattle.basic_toml_grammar.specs.Steps.{key, number, Path, begins, steps_of}
-use Rattle.basic_toml_grammar.specs.Nodes.{Node, front, value_node, dotted_node, holder_in, node_in, node_among, node_by}
+use Rattle.basic_toml_grammar.specs.Nodes.{Node, front, value_node, dotted_node, holder_in, node_in, node_among}
+use Rattle.basic_toml_grammar.specs.Nodes.{node_by}
 
 -- one of three, each where it is chosen
 pub one_of : (a b : Bool) (m n : Option Node) (d : Node) (P : Node → Type 0) → (a ≡ true → IfSome m P)
@@ -20,16 +21,7 @@ module _ (keys : KeyTexts) (P : Node → Type 0)
     in_value outer at v [] = of_value outer at v
     in_value outer at (Raw.array es) (number n ∷ p) = among_elements outer es n p
     in_value outer at (Raw.inline rows) (key k ∷ p) = by_rows (Some at) rows rows (key k ∷ p)
-    in_value outer at (Raw.array es) (key k ∷ p) = tt
-    in_value outer at (Raw.inline rows) (number n ∷ p) = tt
-    in_value outer at (Raw.integer z) (key k ∷ p) = tt
-    in_value outer at (Raw.integer z) (number n ∷ p) = tt
-    in_value outer at (Raw.float z) (key k ∷ p) = tt
-    in_value outer at (Raw.float z) (number n ∷ p) = tt
-    in_value outer at (Raw.boolean z) (key k ∷ p) = tt
-    in_value outer at (Raw.boolean z) (number n ∷ p) = tt
-    in_value outer at (Raw.string z c) (key k ∷ p) = tt
-    in_value outer at (Raw.string z c) (number n ∷ p) = tt
+    in_value outer at v p = tt
 
     among_elements : (outer : Option ℕ) (es : Elements) (n : ℕ) (p : Path) → IfSome (node_among keys outer es n p) P
     among_elements outer no_elements n p = tt

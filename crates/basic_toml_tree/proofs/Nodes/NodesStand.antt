@@ -1,18 +1,19 @@
 -- A node below another one stands at the path of that one and one more step.
-use Rattle.std.proofs.Common.{◌≡◌, ◌⊎◌, inl, inr, ◌==◌, ℕ, Bool, true, false, cond, List, [], ◌∷◌}
+use Rattle.std.proofs.Common.{◌≡◌, ◌⊎◌, inl, inr, ◌==◌, ℕ, Bool, true, false, List, [], ◌∷◌}
 use Rattle.std.proofs.Common.{◌++◌, Some, None, refl, ap, sym, ◌∙◌, subst, map, rules, Vec, Box, Global, IsTrue}
 use Rattle.std.specs.Prelude.{slice_get, Option}
 use Rattle.std.specs.Option.{option_and_then}
 use Rattle.std.specs.Str.{bytes_eq}
 use Rattle.std.proofs.lemmas.Slice.Eq.{bytes_eq-Decides}
 use Rattle.std.specs.Borrow.{Bor}
+use Rattle.std.proofs.lemmas.Bool.{cases_Bool}
 use Rattle.basic_toml_value.specs.Data.{Data, items_of}
 use Rattle.basic_toml_index.specs.Keys.{are_distinct}
 use Rattle.basic_toml_value.specs.Pairs.{keys_of, value_at}
 use Rattle.basic_toml_index.proofs.DistinctKeys.{bytes_eq-same, bytes_eq_other, is_among-before}
 use Rattle.basic_toml_grammar.specs.Steps.{Step, key, number, Path}
 use Rattle.basic_toml_grammar.specs.Standing as standing
-use Rattle.basic_toml_grammar.specs.Trie.{Trie, trie, nothing, below, find, by}
+use Rattle.basic_toml_grammar.specs.Trie.{Trie, trie, nothing, below, find}
 use Rattle.basic_toml_grammar.specs.Mentions.{finished}
 use Rattle.basic_toml_read.specs.declared.section.Raw as raws
 use Rattle.basic_toml_read.specs.declared.section.Element.{Element}
@@ -37,8 +38,8 @@ use Rattle.basic_toml_tree.specs.Keys.{CountsKeys, KeysLead, RowsLead}
 use Rattle.basic_toml_tree.proofs.Nodes.KeysLead.{count_beside, keys_beside, rows_beside}
 use Rattle.basic_toml_tree.specs.Stands.{StandsAt, StandsOn, IsBeside, is_wrapper, ItemHolds, ComesFrom, node_origins}
 use Rattle.basic_toml_tree.specs.Stands.{StartIsKept, tree_origins, IsPlainElement, spot_origins}
-use Rattle.basic_toml_tree.specs.Data.{child_data, table_data}
-use Rattle.basic_toml_tree.specs.Nodes.{node_data, data_at, elements_in}
+use Rattle.basic_toml_tree.specs.Data.{child_data, table_data, data_of}
+use Rattle.basic_toml_tree.specs.Nodes.{node_data, data_at, elements_in, spot_data}
 use Rattle.basic_toml_tree.specs.HeaderTables.{table_of}
 use Rattle.basic_toml_tree.specs.Outer.{around}
 use Rattle.basic_toml_tree.specs.Paths.{data_by, data_along}
@@ -51,6 +52,7 @@ use Rattle.basic_toml_value.proofs.KeysChanged.{first_at}
 use Rattle.basic_toml_grow.proofs.ItemsStand.{shape}
 use Rattle.basic_toml_tree.proofs.Nodes.NodesCome.{comes_on, key_comes, key_origins, literal_comes}
 use Rattle.basic_toml_tree.proofs.Nodes.Lines.{around_key, around_number}
+use Rattle.basic_toml_tree.proofs.Nodes.NodesInOrder.{array_elements, read_mapped}
 use Rattle.basic_toml_grow.proofs.KeysInATrie.{tries_of}
 
 pub at_more : (p : Path) (s : Step) (t : Trie) → trie_at (p ++ s ∷ []) t ≡ below s (trie_at p t)
@@ -80,16 +82,12 @@ find_key : (ps : List (List ℕ × Child)) (k : List ℕ) (c : Child) → value_
     → find (key k) (by_keys (tries_of child_trie ps)) ≡ child_trie c
 unfolding tries_of
 find_key [] k c found = absurd (cc)
-find_key (p ∷ ps) k c found = go (find_key ps k c) (bytes_eq k p.0) refl found
-  where
-    go : (value_at ps k ≡ Some c → find (key k) (by_keys (tries_of child_trie ps)) ≡ child_trie c) → (b : Bool)
-        → bytes_eq k p.0 ≡ b → cond b (Some p.1) (value_at ps k) ≡ Some c
-        → find (key k) (by (key p.0) (child_trie p.1) (by_keys (tries_of child_trie ps))) ≡ child_trie c
-    go ih true e found =
-        let same : k ≡ p.0 = (bytes_eq-Decides k p.0).0 e in
-        let this : p.1 ≡ c = cc in
-        rw (same, bytes_eq-same p.0) (ap child_trie this)
-    go ih false e found = rw (bytes_eq_other p.0 k e) (ih found)
+find_key (p ∷ ps) k c found = elim (cases_Bool (bytes_eq k p.0)) [
+  | inl e ↦
+      let same : k ≡ p.0 = (bytes_eq-Decides k p.0).0 e in
+      let this : p.1 ≡ c = cc (rw e at found) in rw (same, bytes_eq-same p.0) (ap child_trie this)
+  | inr e ↦ rw (bytes_eq_other p.0 k e) (find_key ps k c (rw e at found))
+]
 
 table_below : (t : Table) (k : List ℕ) (c : Child) → value_at (out-Table t).entries k ≡ Some c
     → below (key k) (table_trie t) ≡ child_trie c
@@ -112,18 +110,7 @@ item_below i (Item-F.Inline table) t k u is own holds =
     let leaf = inline_trie table in
     inl (ap (λ i. below (key k) (item_trie i)) (shape i (Item-F.Inline table) is) ∙ ap (below (key k)) leaf.1)
 item_below i (Item-F.Table table) t k u is own holds = cc
-item_below i (Item-F.Section z) t k u is own holds = absurd holds
-item_below i (Item-F.Integer z) t k u is own holds = absurd holds
-item_below i (Item-F.Float z) t k u is own holds = absurd holds
-item_below i Item-F.True t k u is own holds = absurd holds
-item_below i Item-F.False t k u is own holds = absurd holds
-item_below i (Item-F.String z) t k u is own holds = absurd holds
-item_below i (Item-F.Escaped z) t k u is own holds = absurd holds
-item_below i (Item-F.Array z) t k u is own holds = absurd holds
-item_below i (Item-F.Plain z) t k u is own holds = absurd holds
-item_below i (Item-F.Rows z) t k u is own holds = absurd holds
-item_below i (Item-F.Tables z) t k u is own holds = absurd holds
-item_below i (Item-F.Sections z) t k u is own holds = absurd holds
+item_below i x t k u is own holds = absurd holds
 
 spot_below : (spot : Spot) (t : Table) (k : List ℕ) (c : Child) → HoldsTable spot t → wraps_table spot ≡ false
     → value_at (out-Table t).entries k ≡ Some c → NothingOr (key k) (spot_trie spot) (child_trie c)
@@ -134,32 +121,29 @@ spot_below (spots.Item item) t k c holds own found =
     item_below item.now (out-Item item.now) t k (child_trie c) refl own holds
 spot_below (spots.Plain plain) t k c holds own found = absurd holds
 
+-- A node is that of a path of a tree, and of a step on from another node, if the trie tells of anything there.
+abbrev pub Further : Tree → Path → Node → Type 0
+Further tree p node = (trie_at p (tree_trie tree) ≡ nothing)
+    ⊎ ((spot_trie node.spot ≡ trie_at p (tree_trie tree)) × (wraps_table node.spot ≡ false))
+
+abbrev StepsOn : Node → Step → Node → Type 0
+StepsOn from s node = (below s (spot_trie from.spot) ≡ nothing)
+    ⊎ ((spot_trie node.spot ≡ below s (spot_trie from.spot)) × (wraps_table node.spot ≡ false))
+
 -- one step on from a node
 module _ (from node : Node) (s : Step) (same : node.tree ≡ from.tree)
     (read : data_by s (node_data from) ≡ Some (node_data node))
-    (more : wraps_table from.spot ≡ false → (below s (spot_trie from.spot) ≡ nothing)
-    ⊎ ((spot_trie node.spot ≡ below s (spot_trie from.spot)) × (wraps_table node.spot ≡ false)))
+    (more : wraps_table from.spot ≡ false → StepsOn from s node)
     (comes : (at : ℕ) → ComesFrom (λ q. node_origins at from (s ∷ q)) node) (tree : Tree) (p : Path)
     (stands : StandsAt tree p from) where
-  further : (trie_at (p ++ s ∷ []) (tree_trie tree) ≡ nothing)
-      ⊎ ((spot_trie node.spot ≡ trie_at (p ++ s ∷ []) (tree_trie tree)) × (wraps_table node.spot ≡ false))
-  further = go stands.there
-    where
-      here : Trie
-      here = trie_at p (tree_trie tree)
-
-      step : (below s (spot_trie from.spot) ≡ nothing)
-          ⊎ ((spot_trie node.spot ≡ below s (spot_trie from.spot)) × (wraps_table node.spot ≡ false))
-          → spot_trie from.spot ≡ here → (trie_at (p ++ s ∷ []) (tree_trie tree) ≡ nothing)
-          ⊎ ((spot_trie node.spot ≡ trie_at (p ++ s ∷ []) (tree_trie tree)) × (wraps_table node.spot ≡ false))
-      step (inl none) is = inl (at_more p s (tree_trie tree) ∙ ap (below s) (sym is) ∙ none)
-      step (inr there) is = inr (there.0 ∙ ap (below s) is ∙ sym (at_more p s (tree_trie tree)), there.1)
-
-      go : (here ≡ nothing) ⊎ ((spot_trie from.spot ≡ here) × (wraps_table from.spot ≡ false))
-          → (trie_at (p ++ s ∷ []) (tree_trie tree) ≡ nothing)
-          ⊎ ((spot_trie node.spot ≡ trie_at (p ++ s ∷ []) (tree_trie tree)) × (wraps_table node.spot ≡ false))
-      go (inl none) = inl (at_more p s (tree_trie tree) ∙ ap (below s) none)
-      go (inr there) = step (more there.1) there.0
+  further : Further tree (p ++ s ∷ []) node
+  further = elim stands.there [
+    | inl none ↦ inl (at_more p s (tree_trie tree) ∙ ap (below s) none)
+    | inr there ↦ elim (more there.1) [
+      | inl none ↦ inl (at_more p s (tree_trie tree) ∙ ap (below s) (sym there.0) ∙ none)
+      | inr on ↦ inr (on.0 ∙ ap (below s) there.0 ∙ sym (at_more p s (tree_trie tree)), on.1)
+    ]
+  ]
 
   pub stands_on : (node.count == 0) ≡ false → StartIsKept tree (around (p ++ s ∷ [])) node.outer
       → CountsKeys tree (p ++ s ∷ []) node → KeysLead tree (p ++ s ∷ []) node → RowsLead tree (p ++ s ∷ []) node → StandsAt tree (p ++ s ∷ []) node
@@ -175,21 +159,11 @@ module _ (from node : Node) (s : Step) (same : node.tree ≡ from.tree)
     rows = rows;
   }
 
--- what a node keeps of where this one begins, and one beside it of what is around both
+-- what a node keeps of where this one begins
 abbrev pub KeepsBelow : Node → Node → Type 0
 KeepsBelow from node = (tree : Tree) (p : Path) → StandsAt tree p from → StartIsKept tree p node.outer
 
-pub kept_beside : (from node : Node) (n : ℕ) (tree : Tree) (p : Path) → node.outer ≡ from.outer → StandsAt tree p from
-    → StartIsKept tree (around (p ++ number n ∷ [])) node.outer
-kept_beside from node n tree p same stands =
-    subst (λ q. StartIsKept tree q node.outer) (sym (around_number p n))
-    (subst (λ outer. StartIsKept tree (around p) outer) (sym same) stands.outer)
-
 -- what is kept of the keys, one step on from a node
-abbrev pub Further : Tree → Path → Node → Type 0
-Further tree p node = (trie_at p (tree_trie tree) ≡ nothing)
-    ⊎ ((spot_trie node.spot ≡ trie_at p (tree_trie tree)) × (wraps_table node.spot ≡ false))
-
 abbrev pub KeysOn : Node → List ℕ → Child → Node → Type 0
 KeysOn from k c node = (tree : Tree) (p : Path) → StandsAt tree p from → Further tree (p ++ key k ∷ []) node
     → tree_origins tree (p ++ key k ∷ []) ≡ child_origins c []
@@ -207,14 +181,11 @@ key_stands from node t k c holds found read is comes keeps keys tree p stands =
     (subst (λ q. StartIsKept tree q node.outer) (sym (around_key p k)) (keeps tree p stands)) kept.0 kept.1
     kept.2
   where
-    go : NothingOr (key k) (spot_trie from.spot) (child_trie c) → (below (key k) (spot_trie from.spot) ≡ nothing)
-        ⊎ ((spot_trie node.spot ≡ below (key k) (spot_trie from.spot)) × (wraps_table node.spot ≡ false))
-    go (inl none) = inl none
-    go (inr same) = inr (is.trie ∙ same, is.own)
-
-    more : wraps_table from.spot ≡ false → (below (key k) (spot_trie from.spot) ≡ nothing)
-        ⊎ ((spot_trie node.spot ≡ below (key k) (spot_trie from.spot)) × (wraps_table node.spot ≡ false))
-    more own = go (spot_below from.spot t k c holds own found)
+    more : wraps_table from.spot ≡ false → StepsOn from (key k) node
+    more own = elim (spot_below from.spot t k c holds own found) [
+      | inl none ↦ inl none
+      | inr same ↦ inr (is.trie ∙ same, is.own)
+    ]
 
     from_there : (at : ℕ) → ComesFrom (λ q. node_origins at from (key k ∷ q)) node
     from_there at = key_comes from node t k c holds found comes at
@@ -239,15 +210,27 @@ tells_table _ = false
 pub no_array_root : (from : Node) (tree : Tree) (p : Path) → StandsAt tree p from
     → tells_table (spot_trie from.spot) ≡ false → is_root p ≡ false
 no_array_root from tree (s ∷ p) stands array = refl
-no_array_root from tree [] stands array = go stands.there
-  where
-    root : tells_table (tree_trie tree) ≡ true
-    root = ap tells_table (table_entries_trie tree.root)
+no_array_root from tree [] stands array =
+    let root : tells_table (tree_trie tree) ≡ true = ap tells_table (table_entries_trie tree.root) in
+    elim stands.there [
+      | inl none ↦ sym root ∙ ap tells_table none
+      | inr there ↦ sym root ∙ ap tells_table (sym there.0) ∙ array
+    ]
 
-    go : (tree_trie tree ≡ nothing) ⊎ ((spot_trie from.spot ≡ tree_trie tree) × (wraps_table from.spot ≡ false))
-        → true ≡ false
-    go (inl none) = sym root ∙ ap tells_table none
-    go (inr there) = sym root ∙ ap tells_table (sym there.0) ∙ array
+-- A node beside an array, with the keys of it and the same table around, is that of an element.
+pub beside_stands : (from node : Node) (here : Spot) (n : ℕ) → IsBeside from here node
+    → tells_table (spot_trie from.spot) ≡ false → slice_get (elements_in (node_data from)) n ≡ Some (node_data node)
+    → (wraps_table from.spot ≡ false → StepsOn from (number n) node)
+    → ((node.count == 0) ≡ false → (s : ℕ) → ComesFrom (λ q. node_origins s from (number n ∷ q)) node)
+    → StandsOn from (number n) node
+beside_stands from node here n beside array read more comes tree p stands =
+    let counted : (node.count == 0) ≡ false =
+    ap (λ c. c == 0) beside.count ∙ stands.root ∙ no_array_root from tree p stands array in
+    stands_on from node (number n) beside.tree read more (comes counted) tree p stands counted
+    (subst (λ q. StartIsKept tree q node.outer) (sym (around_number p n))
+    (subst (λ outer. StartIsKept tree (around p) outer) (sym beside.outer) stands.outer))
+    (count_beside from node here n beside tree p stands) (keys_beside from node here n beside tree p stands)
+    (rows_beside from node here n beside tree p stands)
 
 -- the trie of an item
 array_spot : (from : Node) (b : Bor Item) (i : Item) → from.spot ≡ spots.Item b → b.now ≡ i
@@ -262,13 +245,9 @@ element_stands : (from node : Node) (n : ℕ) (es : List Element) → IsPlainEle
     → spot_trie from.spot ≡ leaf (finished (plain_array es))
     → ((at s : ℕ) → spot_origins from.spot at s ≡ value_origins s at (plain_array es))
     → slice_get (elements_in (node_data from)) n ≡ Some (node_data node) → StandsOn from (number n) node
-element_stands from node n es placed here origins read tree p stands =
-    let beside = placed.beside in
-    stands_on from node (number n) beside.tree read (λ own. inl (ap (below (number n)) here))
-    (element_comes from node es n placed origins) tree p stands
-    (ap (λ c. c == 0) beside.count ∙ stands.root ∙ no_array_root from tree p stands (ap tells_table here))
-    (kept_beside from node n tree p beside.outer stands) (count_beside from node node.spot n beside tree p stands)
-    (keys_beside from node node.spot n beside tree p stands) (rows_beside from node node.spot n beside tree p stands)
+element_stands from node n es placed here origins read =
+    beside_stands from node node.spot n placed.beside (ap tells_table here) read
+    (λ own. inl (ap (below (number n)) here)) (λ counted. element_comes from node es n placed origins)
 
 -- and of one among such elements
 pub value_stands : (from node : Node) (n : ℕ) (v : PlainValue) (es : Vec Element Global) → from.spot ≡ spots.Plain v
@@ -281,17 +260,21 @@ value_stands from node n v es at is placed read =
 
 module _ (from node : Node) (n : ℕ) (b : Bor Item) (at : from.spot ≡ spots.Item b) where
   pub literal_stands : (children : Vec Child Global) (spot : Spot) (child : Child) → b.now ≡ Array children
-      → slice_get (map child_origins children.items) n ≡ Some (child_origins child)
-      → slice_get (elements_in (node_data from)) n ≡ Some (node_data node)
-      → IsBeside from spot node → ComesFrom (child_origins child) node → StandsOn from (number n) node
-  literal_stands children spot child is read found beside comes tree p stands =
+      → slice_get children.items n ≡ Some child → node_data node ≡ child_data child → IsBeside from spot node
+      → ComesFrom (child_origins child) node
+      → (slice_get (elements_in (node_data from)) n ≡ Some (node_data node)) × StandsOn from (number n) node
+  literal_stands children spot child is there same beside comes =
       let d = array_trie children in
       let here : spot_trie from.spot ≡ leaf d.0 = array_spot from b (Array children) at is ∙ d.1 in
-      stands_on from node (number n) beside.tree found (λ own. inl (ap (below (number n)) here))
-      (λ s. literal_comes from node n b at children child is read comes s) tree p stands
-      (ap (λ c. c == 0) beside.count ∙ stands.root ∙ no_array_root from tree p stands (ap tells_table here))
-      (kept_beside from node n tree p beside.outer stands) (count_beside from node spot n beside tree p stands)
-      (keys_beside from node spot n beside tree p stands) (rows_beside from node spot n beside tree p stands)
+      let read : slice_get (elements_in (node_data from)) n ≡ Some (node_data node) =
+      ap (λ spot. slice_get (elements_in (spot_data spot)) n) at ∙ ap (λ i. slice_get (elements_in (data_of i)) n) is
+      ∙ ap (λ ds. slice_get ds n) (array_elements children) ∙ read_mapped child_data children.items n child there
+      ∙ ap Some (sym same) in (
+        read,
+        beside_stands from node spot n beside (ap tells_table here) read (λ own. inl (ap (below (number n)) here))
+            (λ counted s. literal_comes from node n b at children child is
+            (read_mapped child_origins children.items n child there) comes s),
+      )
 
   pub plain_stand : (es : List Element) → b.now ≡ Plain es → IsPlainElement from es n node
       → slice_get (elements_in (node_data from)) n ≡ Some (node_data node) → StandsOn from (number n) node

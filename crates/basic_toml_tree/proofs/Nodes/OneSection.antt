@@ -1,37 +1,36 @@
 -- Where rows put something at a key of a table that headers made, or below it, they are rows of one section: those of
 -- two would clash.
 use Rattle.std.proofs.Common.{◌≡◌, ◌⊎◌, inl, inr, ◌+◌, ℕ, zero, suc, Bool, true, false, List, [], ◌∷◌, ◌++◌, Option}
-use Rattle.std.proofs.Common.{Some, None, refl, ap, sym, ◌∙◌, subst, arith, slice_get, map}
-use Rattle.std.specs.Prelude.{◌||◌, if◌then◌else◌, IfSome}
+use Rattle.std.proofs.Common.{Some, None, refl, ap, sym, ◌∙◌, subst, arith, slice_get, map, append_assoc}
+use Rattle.std.specs.Prelude.{◌||◌, if◌then◌else◌, IfSome, ⊤}
 use Rattle.std.specs.List.{list_any, list_all}
 use Rattle.std.specs.Option.{option_or}
-use Rattle.std.proofs.lemmas.Bool.{false≢true, and_parts, or_left, or_right}
-use Rattle.basic_toml_grammar.specs.Sections.{KeyTexts}
-use Rattle.basic_toml_grammar.specs.Sections.{Section}
+use Rattle.std.proofs.lemmas.Bool.{false≢true, and_parts, or_left, or_right, or_parts, or_cases}
+use Rattle.std.proofs.lemmas.Option.{IfSome_then, MatchOption-at_some}
+use Rattle.basic_toml_grammar.specs.Sections.{KeyTexts, Section}
 use Rattle.basic_toml_grammar.specs.Steps.{Step, key, number, Path, step_eq, path_eq, begins, steps_of}
 use Rattle.basic_toml_grammar.specs.IndexedPath.{Located, located}
-use Rattle.basic_toml_grammar.specs.SectionClash.{without_last_number, target, inner_beginnings, same_path, array_on_cut}
-use Rattle.basic_toml_grammar.specs.SectionClash.{row_crossed, any_row_clashes, clashes_one_way, clashes}
+use Rattle.basic_toml_grammar.specs.SectionClash.{without_last_number, target, inner_beginnings, same_path}
+use Rattle.basic_toml_grammar.specs.SectionClash.{array_on_cut, row_crossed, any_row_clashes, clashes_one_way, clashes}
 use Rattle.basic_toml_grammar.specs.SectionClash.{any_pair, sections_clash}
 use Rattle.basic_toml_grammar.specs.Entering.{keyed_within, all_keyed_within}
 use Rattle.basic_toml_grammar.specs.Nodes.{is_made}
 use Rattle.basic_toml_grammar.proofs.Clash.PathsAgree.{append_none}
 use Rattle.basic_toml_grammar.proofs.Clash.StepTestsDecide.{begins_itself, paths_same}
-use Rattle.basic_toml_grow.specs.Origins.{Origin, along}
-use Rattle.basic_toml_grow.specs.Origins.{rows_origins}
+use Rattle.basic_toml_grow.specs.Origins.{Origin, along, rows_origins}
 use Rattle.basic_toml_grow.specs.Ways.{sections_origins}
-use Rattle.basic_toml_tree.proofs.Nodes.RowKeys.{either, Of, along_bears, rows_bear}
-use Rattle.basic_toml_tree.proofs.Nodes.RowNodesTold.{some_then, located_keyed}
-use Rattle.basic_toml_tree.proofs.Nodes.RowsReach.{Told, rows_told, On, along_tells, along_there, Over, GoneOn}
-use Rattle.basic_toml_tree.proofs.Nodes.RowsReach.{rows_over, joined}
+use Rattle.basic_toml_tree.proofs.Nodes.RowKeys.{Of, along_bears, rows_bear}
+use Rattle.basic_toml_tree.proofs.Nodes.RowNodesTold.{located_keyed}
+use Rattle.basic_toml_tree.proofs.Nodes.RowsReach.{Told, rows_told, along_tells, Over, GoneOn, rows_over}
+use Rattle.basic_toml_tree.proofs.Origins.RowsAreNodes.{along_on}
 
 -- sections of the list by their numbers
 none_at : (f : Located → Bool) (ls : List Located) → list_any f ls ≡ false → (m : ℕ) (l : Located)
     → slice_get ls m ≡ Some l → f l ≡ false
 none_at f [] none m l there = absurd (cc)
 none_at f (i ∷ ls) none zero l there =
-    let is : i ≡ l = cc in subst (λ l. f l ≡ false) is (either (f i) (list_any f ls) none).0
-none_at f (i ∷ ls) none (suc m) l there = none_at f ls (either (f i) (list_any f ls) none).1 m l there
+    let is : i ≡ l = cc in subst (λ l. f l ≡ false) is (or_parts (f i) (list_any f ls) none).0
+none_at f (i ∷ ls) none (suc m) l there = none_at f ls (or_parts (f i) (list_any f ls) none).1 m l there
 
 all_at : (f : Located → Bool) (ls : List Located) → list_all f ls ≡ true → (m : ℕ) (l : Located)
     → slice_get ls m ≡ Some l → f l ≡ true
@@ -45,11 +44,10 @@ At f ls = (m : ℕ) × (l : Located) × (slice_get ls m ≡ Some l) × (f l ≡ 
 
 some_at : (f : Located → Bool) (ls : List Located) → list_any f ls ≡ true → At f ls
 some_at f [] some = absurd (false≢true some)
-some_at f (i ∷ ls) some = go (f i) refl some (some_at f ls)
-  where
-    go : (b : Bool) → f i ≡ b → (b || list_any f ls) ≡ true → (list_any f ls ≡ true → At f ls) → At f (i ∷ ls)
-    go true e some later = (0, i, refl, e)
-    go false e some later = let at = later some in (suc at.0, at.1, at.2, at.3)
+some_at f (i ∷ ls) some = elim (or_cases (f i) (list_any f ls) some) [
+  | inl here ↦ (0, i, refl, here)
+  | inr later ↦ let at = some_at f ls later in (suc at.0, at.1, at.2, at.3)
+]
 
 pairs_apart : (ls : List Located) → any_pair clashes ls ≡ false → (a b : ℕ) (i j : Located) → slice_get ls a ≡ Some i
     → slice_get ls b ≡ Some j → (a ≡ b → ⊥) → clashes_one_way i j ≡ false
@@ -57,16 +55,16 @@ pairs_apart [] none a b i j at_a at_b other = absurd (cc)
 pairs_apart (l ∷ ls) none zero zero i j at_a at_b other = absurd (other refl)
 pairs_apart (l ∷ ls) none zero (suc b) i j at_a at_b other =
     let is : l ≡ i = cc in
-    let first = (either (list_any (clashes l) ls) (any_pair clashes ls) none).0 in
+    let first = (or_parts (list_any (clashes l) ls) (any_pair clashes ls) none).0 in
     subst (λ i. clashes_one_way i j ≡ false) is
-    (either (clashes_one_way l j) (clashes_one_way j l) (none_at (clashes l) ls first b j at_b)).0
+    (or_parts (clashes_one_way l j) (clashes_one_way j l) (none_at (clashes l) ls first b j at_b)).0
 pairs_apart (l ∷ ls) none (suc a) zero i j at_a at_b other =
     let is : l ≡ j = cc in
-    let first = (either (list_any (clashes l) ls) (any_pair clashes ls) none).0 in
+    let first = (or_parts (list_any (clashes l) ls) (any_pair clashes ls) none).0 in
     subst (λ j. clashes_one_way i j ≡ false) is
-    (either (clashes_one_way l i) (clashes_one_way i l) (none_at (clashes l) ls first a i at_a)).1
+    (or_parts (clashes_one_way l i) (clashes_one_way i l) (none_at (clashes l) ls first a i at_a)).1
 pairs_apart (l ∷ ls) none (suc a) (suc b) i j at_a at_b other =
-    pairs_apart ls (either (list_any (clashes l) ls) (any_pair clashes ls) none).1 a b i j at_a at_b
+    pairs_apart ls (or_parts (list_any (clashes l) ls) (any_pair clashes ls) none).1 a b i j at_a at_b
     (λ e. other (ap suc e))
 
 -- a header below a section's table, on whose path its row goes on
@@ -129,24 +127,25 @@ compare [] y v z same = inl (v, refl, same)
 compare (s ∷ w) y [] z same = inr (s ∷ w, refl, sym same)
 compare (s ∷ w) y (t ∷ v) z same =
     let first : s ≡ t = cc in
-    let rest : w ++ y ≡ v ++ z = cc in on first (compare w y v z rest)
-  where
-    on : s ≡ t → Further w y v z ⊎ Further v z w y → Further (s ∷ w) y (t ∷ v) z ⊎ Further (t ∷ v) z (s ∷ w) y
-    on e (inl b) = inl (b.0, ap (λ t. t ∷ v) (sym e) ∙ ap (λ p. s ∷ p) b.1, b.2)
-    on e (inr b) = inr (b.0, ap (λ s. s ∷ w) e ∙ ap (λ p. t ∷ p) b.1, b.2)
+    let rest : w ++ y ≡ v ++ z = cc in
+    elim (compare w y v z rest) [
+      | inl b ↦ inl (b.0, ap (λ t. t ∷ v) (sym first) ∙ ap (λ p. s ∷ p) b.1, b.2)
+      | inr b ↦ inr (b.0, ap (λ s. s ∷ w) first ∙ ap (λ p. t ∷ p) b.1, b.2)
+    ]
 
 further_clashes : (i j : Located) (y z : Path) (s : Step) → Further i.path y j.path z
     → Over i.path i.section.rows y s → clashes_one_way i j ≡ false → ⊥
 further_clashes i j y z s ([], at, rest) over apart =
-    let one = (either (same_path i j) (array_on_cut i j || any_row_clashes i.path i.section.rows j) apart).0 in
+    let one = (or_parts (same_path i j) (array_on_cut i j || any_row_clashes i.path i.section.rows j) apart).0 in
     false≢true (sym one ∙ ap (λ p. path_eq i.path p) (at ∙ append_none i.path) ∙ paths_same i.path)
 further_clashes i j y z s (u ∷ b, at, rest) over apart =
-    let two = (either (same_path i j) (array_on_cut i j || any_row_clashes i.path i.section.rows j) apart).1 in
-    let row = (either (array_on_cut i j) (any_row_clashes i.path i.section.rows j) two).1 in
+    let two = (or_parts (same_path i j) (array_on_cut i j || any_row_clashes i.path i.section.rows j) apart).1 in
+    let row = (or_parts (array_on_cut i j) (any_row_clashes i.path i.section.rows j) two).1 in
     let on = begun z s over.more in
     false≢true (sym (over.crossed j row)
     ∙ crosses i j over.keys u b on.0 on.1 at
-    (over.is ∙ ap (λ y. y ++ s ∷ over.more) rest ∙ joined (u ∷ b) z (s ∷ over.more) ∙ ap (λ p. (u ∷ b) ++ p) on.2))
+    (over.is ∙ ap (λ y. y ++ s ∷ over.more) rest ∙ append_assoc (u ∷ b) z (s ∷ over.more)
+    ∙ ap (λ p. (u ∷ b) ++ p) on.2))
 
 -- A path that goes on from one of two beginnings: the later of them is further on, or goes by the step of the other.
 split : (q w : Path) (s : Step) (r x : Path) → q ++ s ∷ r ≡ w ++ x
@@ -156,12 +155,11 @@ split [] (v ∷ w) s r x same = let first : s ≡ v = cc in inr (w, ap (λ v. v 
 split (u ∷ q) [] s r x same = inl (u ∷ q, refl, same)
 split (u ∷ q) (v ∷ w) s r x same =
     let first : u ≡ v = cc in
-    let rest : q ++ s ∷ r ≡ w ++ x = cc in on first (split q w s r x rest)
-  where
-    on : u ≡ v → ((y : Path) × (q ≡ w ++ y) × (y ++ s ∷ r ≡ x)) ⊎ ((y : Path) × (w ≡ q ++ s ∷ y))
-        → ((y : Path) × (u ∷ q ≡ (v ∷ w) ++ y) × (y ++ s ∷ r ≡ x)) ⊎ ((y : Path) × (v ∷ w ≡ (u ∷ q) ++ s ∷ y))
-    on e (inl at) = inl (at.0, ap (λ u. u ∷ q) e ∙ ap (λ p. v ∷ p) at.1, at.2)
-    on e (inr at) = inr (at.0, ap (λ v. v ∷ w) (sym e) ∙ ap (λ p. u ∷ p) at.1)
+    let rest : q ++ s ∷ r ≡ w ++ x = cc in
+    elim (split q w s r x rest) [
+      | inl at ↦ inl (at.0, ap (λ u. u ∷ q) first ∙ ap (λ p. v ∷ p) at.1, at.2)
+      | inr at ↦ inr (at.0, ap (λ v. v ∷ w) (sym first) ∙ ap (λ p. u ∷ p) at.1)
+    ]
 
 no_longer : (w : Path) (u : Step) (y : Path) → begins (w ++ u ∷ y) w ≡ true → ⊥
 no_longer [] u y e = false≢true e
@@ -206,21 +204,22 @@ teller n (l ∷ later) p o told =
           subst (λ a. along at.1.path (rows_origins a at.1.section.rows) p ≡ Some at.3) is at.4,
         )
 
-pub some_same : (a : Option Origin) (o : Origin) (T : Origin → Type 0) → a ≡ Some o → IfSome a T → T o
-some_same a o T e told = let it : IfSome (Some o) T = subst (λ a. IfSome a T) e told in it
-
 -- a section below whose table the step is, or something further on, stands before the step
 pub stands_before : (ls : List Located) (q : Path) (s : Step)
     → list_any (λ l. begins (q ++ s ∷ []) l.path) ls ≡ false → (m : ℕ) (l : Located) → slice_get ls m ≡ Some l
     → (r x : Path) → q ++ s ∷ r ≡ l.path ++ x → (y : Path) × (q ≡ l.path ++ y) × (y ++ s ∷ r ≡ x)
-stands_before ls q s not m l there r x same = go (split q l.path s r x same)
-  where
-    go : ((y : Path) × (q ≡ l.path ++ y) × (y ++ s ∷ r ≡ x)) ⊎ ((y : Path) × (l.path ≡ q ++ s ∷ y))
-        → (y : Path) × (q ≡ l.path ++ y) × (y ++ s ∷ r ≡ x)
-    go (inl at) = at
-    go (inr at) =
-        absurd (false≢true (sym (none_at (λ l. begins (q ++ s ∷ []) l.path) ls not m l there)
-        ∙ ap (λ p. begins (q ++ s ∷ []) p) (at.1 ∙ sym (joined q (s ∷ []) at.0)) ∙ begins_itself (q ++ s ∷ []) at.0))
+stands_before ls q s not m l there r x same = elim (split q l.path s r x same) [
+  | inl at ↦ at
+  | inr at ↦
+      absurd (false≢true (sym (none_at (λ l. begins (q ++ s ∷ []) l.path) ls not m l there)
+      ∙ ap (begins (q ++ s ∷ [])) (at.1 ∙ sym (append_assoc q (s ∷ []) at.0)) ∙ begins_itself (q ++ s ∷ []) at.0))
+]
+
+-- What rows put below a key that no header names or passes through, of a table that headers made: rows put something
+-- at that key, too, and of the same section.
+abbrev pub Entry : Path → Step → ℕ → List Located → Origin → Type 0
+Entry q s n later o = (k : List ℕ) × (s ≡ key k) × (x : Origin)
+    × (sections_origins n later (q ++ s ∷ []) ≡ Some x) × (x.section ≡ o.section)
 
 -- a list in which no two sections clash, and a step that no header takes on from where some go
 module _ (ls : List Located) (apart : any_pair clashes ls ≡ false)
@@ -245,15 +244,15 @@ module _ (ls : List Located) (apart : any_pair clashes ls ≡ false)
             let one = pairs_apart ls apart m b l j there at_b (λ e.
             let same : l ≡ j = cc (e, there, at_b) in
             no_longer l.path u y (subst (λ j. begins (l.path ++ u ∷ y) j.path ≡ true) (sym same) on)) in
-            (either (array_on_cut l j) (any_row_clashes l.path l.section.rows j)
-            (either (same_path l j) (array_on_cut l j || any_row_clashes l.path l.section.rows j) one).1).1
+            (or_parts (array_on_cut l j) (any_row_clashes l.path l.section.rows j)
+            (or_parts (same_path l j) (array_on_cut l j || any_row_clashes l.path l.section.rows j) one).1).1
 
     passes : (n m : ℕ) (l : Located) → slice_get ls m ≡ Some l → (r : Path)
         → IfSome (along l.path (rows_origins n l.section.rows) (q ++ s ∷ r)) (λ o. Passes l)
     passes n m l there r =
         let f = rows_origins n l.section.rows in
-        some_then (along l.path f (q ++ s ∷ r)) (On l.path f (q ++ s ∷ r)) (λ o. Passes l)
-        (λ o on. go o on.0 on.2 (stands_before ls q s not m l there r on.0 on.1)) (along_tells l.path f (q ++ s ∷ r))
+        IfSome_then (along l.path f (q ++ s ∷ r)) (along_tells l.path f (q ++ s ∷ r))
+        (λ o on. go o on.0 on.2 (stands_before ls q s not m l there r on.0 on.1))
       where
         go : (o : Origin) (x : Path) → rows_origins n l.section.rows x ≡ Some o
             → (y : Path) × (q ≡ l.path ++ y) × (y ++ s ∷ r ≡ x) → Passes l
@@ -262,36 +261,28 @@ module _ (ls : List Located) (apart : any_pair clashes ls ≡ false)
             (all_at (λ l. keyed_within l.section.rows) ls keyed m l there) (gone_on m l there at.0 at.1) in (
               at.0,
               at.1,
-              some_same (rows_origins n l.section.rows (at.0 ++ s ∷ r)) o (λ o. Over l.path l.section.rows at.0 s)
+              MatchOption-at_some ⊤ (λ o. Over l.path l.section.rows at.0 s) o
                   (ap (rows_origins n l.section.rows) at.2 ∙ told) over,
             )
 
     -- two of them
     never_two : (a b : ℕ) (i j : Located) → slice_get ls a ≡ Some i → slice_get ls b ≡ Some j → (a ≡ b → ⊥)
         → Passes i → Passes j → ⊥
-    never_two a b i j at_a at_b other one two =
-        go (compare i.path one.0 j.path two.0 (sym one.1 ∙ two.1))
-      where
-        go : Further i.path one.0 j.path two.0 ⊎ Further j.path two.0 i.path one.0 → ⊥
-        go (inl on) =
-            further_clashes i j one.0 two.0 s on one.2 (pairs_apart ls apart a b i j at_a at_b other)
-        go (inr on) =
-            further_clashes j i two.0 one.0 s on two.2 (pairs_apart ls apart b a j i at_b at_a (λ e. other (sym e)))
-
-    -- what is told of the step bears the section of what is told further on
-    abbrev Entry : ℕ → List Located → Origin → Type 0
-    Entry n later o = (k : List ℕ) × (s ≡ key k) × (x : Origin)
-        × (sections_origins n later (q ++ s ∷ []) ≡ Some x) × (x.section ≡ o.section)
+    never_two a b i j at_a at_b other one two = elim (compare i.path one.0 j.path two.0 (sym one.1 ∙ two.1)) [
+      | inl on ↦ further_clashes i j one.0 two.0 s on one.2 (pairs_apart ls apart a b i j at_a at_b other)
+      | inr on ↦
+          further_clashes j i two.0 one.0 s on two.2 (pairs_apart ls apart b a j i at_b at_a (λ e. other (sym e)))
+    ]
 
     first_entry : (n m : ℕ) (l : Located) (later : List Located) → slice_get ls m ≡ Some l → (r : Path) (o : Origin)
-        → along l.path (rows_origins n l.section.rows) (q ++ s ∷ r) ≡ Some o → Entry n (l ∷ later) o
+        → along l.path (rows_origins n l.section.rows) (q ++ s ∷ r) ≡ Some o → Entry q s n (l ∷ later) o
     first_entry n m l later there r o told =
         let f = rows_origins n l.section.rows in
-        let at = some_same (along l.path f (q ++ s ∷ r)) o (λ o. Passes l) told (passes n m l there r) in
+        let at = MatchOption-at_some ⊤ (λ o. Passes l) o told (passes n m l there r) in
         let way : (r : Path) → along l.path f (q ++ s ∷ r) ≡ f (at.0 ++ s ∷ r) =
-        λ r. ap (λ q. along l.path f (q ++ s ∷ r)) at.1 ∙ ap (along l.path f) (joined l.path at.0 (s ∷ r))
-        ∙ along_there l.path (at.0 ++ s ∷ r) f in
-        let front = some_same (f (at.0 ++ s ∷ r)) o (λ x. Told (f (at.0 ++ s ∷ []))) (sym (way r) ∙ told)
+        λ r. ap (λ q. along l.path f (q ++ s ∷ r)) at.1 ∙ ap (along l.path f) (append_assoc l.path at.0 (s ∷ r))
+        ∙ along_on l.path (at.0 ++ s ∷ r) f in
+        let front = MatchOption-at_some ⊤ (λ x. Told (f (at.0 ++ s ∷ []))) o (sym (way r) ∙ told)
         (rows_told n l.section.rows at.0 s r) in
         let here : along l.path f (q ++ s ∷ []) ≡ Some front.0 = way [] ∙ front.1 in
         let k = key_in at.2.keys at.0 s at.2.more at.2.is in (
@@ -299,8 +290,8 @@ module _ (ls : List Located) (apart : any_pair clashes ls ≡ false)
           k.1,
           front.0,
           ap (λ a. option_or a (sections_origins (suc n) later (q ++ s ∷ []))) here,
-          some_same (along l.path f (q ++ s ∷ [])) front.0 (Of n) here (bears (q ++ s ∷ []))
-              ∙ sym (some_same (along l.path f (q ++ s ∷ r)) o (Of n) told (bears (q ++ s ∷ r))),
+          MatchOption-at_some ⊤ (Of n) front.0 here (bears (q ++ s ∷ []))
+              ∙ sym (MatchOption-at_some ⊤ (Of n) o told (bears (q ++ s ∷ r))),
         )
       where
         bears : (p : Path) → IfSome (along l.path (rows_origins n l.section.rows) p) (Of n)
@@ -308,12 +299,12 @@ module _ (ls : List Located) (apart : any_pair clashes ls ≡ false)
 
     later_entry : (n m : ℕ) (l : Located) (later : List Located) → slice_get ls m ≡ Some l
         → ((b : ℕ) (j : Located) → slice_get later b ≡ Some j → (c : ℕ) × (slice_get ls c ≡ Some j) × (m ≡ c → ⊥))
-        → (o : Origin) → Entry (suc n) later o → Entry n (l ∷ later) o
+        → (o : Origin) → Entry q s (suc n) later o → Entry q s n (l ∷ later) o
     later_entry n m l later there within o at =
         go (along l.path (rows_origins n l.section.rows) (q ++ s ∷ [])) refl
       where
         go : (a : Option Origin) → along l.path (rows_origins n l.section.rows) (q ++ s ∷ []) ≡ a
-            → Entry n (l ∷ later) o
+            → Entry q s n (l ∷ later) o
         go None e = (
           at.0,
           at.1,
@@ -325,14 +316,13 @@ module _ (ls : List Located) (apart : any_pair clashes ls ≡ false)
             let other = teller (suc n) later (q ++ s ∷ []) at.2 at.3 in
             let where_j = within other.0 other.1 other.2 in
             absurd (never_two m where_j.0 l other.1 there where_j.1 where_j.2
-            (some_same (along l.path (rows_origins n l.section.rows) (q ++ s ∷ [])) x (λ o. Passes l) e
-            (passes n m l there []))
-            (some_same (along other.1.path (rows_origins (suc n + other.0) other.1.section.rows) (q ++ s ∷ [])) other.3
-            (λ o. Passes other.1) other.4 (passes (suc n + other.0) where_j.0 other.1 where_j.1 [])))
+            (MatchOption-at_some ⊤ (λ o. Passes l) x e (passes n m l there []))
+            (MatchOption-at_some ⊤ (λ o. Passes other.1) other.3 other.4
+            (passes (suc n + other.0) where_j.0 other.1 where_j.1 [])))
 
     entries_bear : (n : ℕ) (later : List Located) → ((m : ℕ) (l : Located) → slice_get later m ≡ Some l
         → slice_get ls (n + m) ≡ Some l) → (r : Path)
-        → IfSome (sections_origins n later (q ++ s ∷ r)) (Entry n later)
+        → IfSome (sections_origins n later (q ++ s ∷ r)) (Entry q s n later)
     entries_bear n [] within r = tt
     entries_bear n (l ∷ later) within r =
         go (along l.path (rows_origins n l.section.rows) (q ++ s ∷ r)) refl (entries_bear (suc n) later on r)
@@ -347,23 +337,17 @@ module _ (ls : List Located) (apart : any_pair clashes ls ≡ false)
         elsewhere b j at = (suc n + b, on b j at, λ e. let bad : n + 0 ≡ suc n + b = e in absurd (omega (arith, bad)))
 
         go : (a : Option Origin) → along l.path (rows_origins n l.section.rows) (q ++ s ∷ r) ≡ a
-            → IfSome (sections_origins (suc n) later (q ++ s ∷ r)) (Entry (suc n) later)
-            → IfSome (option_or a (sections_origins (suc n) later (q ++ s ∷ r))) (Entry n (l ∷ later))
+            → IfSome (sections_origins (suc n) later (q ++ s ∷ r)) (Entry q s (suc n) later)
+            → IfSome (option_or a (sections_origins (suc n) later (q ++ s ∷ r))) (Entry q s n (l ∷ later))
         go (Some o) e below = first_entry n (n + 0) l later (within 0 l refl) r o e
         go None e below =
-            some_then (sections_origins (suc n) later (q ++ s ∷ r)) (Entry (suc n) later) (Entry n (l ∷ later))
-            (λ o at. later_entry n (n + 0) l later (within 0 l refl) elsewhere o at) below
-
--- What rows put below a key that no header names or passes through, of a table that headers made: rows put something
--- at that key, too, and of the same section.
-abbrev pub EntryBears : List Section → Path → Step → Origin → Type 0
-EntryBears sections q s o = (k : List ℕ) × (s ≡ key k) × (x : Origin)
-    × (sections_origins 0 (located sections) (q ++ s ∷ []) ≡ Some x) × (x.section ≡ o.section)
+            IfSome_then (sections_origins (suc n) later (q ++ s ∷ r)) below
+            (λ o at. later_entry n (n + 0) l later (within 0 l refl) elsewhere o at)
 
 pub entry_bears : (sections : List Section) → sections_clash sections ≡ false → all_keyed_within sections ≡ true
     → (q : Path) (s : Step) (r : Path) → is_made (located sections) q ≡ true
     → list_any (λ l. begins (q ++ s ∷ []) l.path) (located sections) ≡ false
-    → IfSome (sections_origins 0 (located sections) (q ++ s ∷ r)) (EntryBears sections q s)
+    → IfSome (sections_origins 0 (located sections) (q ++ s ∷ r)) (Entry q s 0 (located sections))
 entry_bears sections apart keyed q s r made not =
     entries_bear (located sections) apart (located_keyed [] sections ∙ keyed) q s made not 0 (located sections)
     (λ m l at. let is : m ≡ 0 + m = omega arith in subst (λ a. slice_get (located sections) a ≡ Some l) is at) r

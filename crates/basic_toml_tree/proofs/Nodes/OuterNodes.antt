@@ -1,10 +1,10 @@
 -- The outer offset of a node is where the table around it begins, by the section list alone.
-use Rattle.std.proofs.Common.{◌≡◌, ◌⊎◌, inl, inr, ℕ, Bool, true, false, List, [], ◌∷◌, ◌++◌, Option, Some, None}
+use Rattle.std.proofs.Common.{◌≡◌, inl, inr, ℕ, true, false, List, [], ◌∷◌, ◌++◌, Option, Some, None}
 use Rattle.std.proofs.Common.{refl, ap, sym, ◌∙◌, length, drop}
-use Rattle.std.specs.Prelude.{◌||◌, if◌then◌else◌, not}
+use Rattle.std.specs.Prelude.{if◌then◌else◌, not}
 use Rattle.std.specs.List.{list_any, list_all}
 use Rattle.std.specs.Option.{option_or}
-use Rattle.std.proofs.lemmas.Bool.{false≢true, and_parts, or_parts, or_from}
+use Rattle.std.proofs.lemmas.Bool.{false≢true, and_parts, or_parts, or_from, cases_Bool}
 use Rattle.basic_toml_value.specs.Data.{Data}
 use Rattle.basic_toml_grammar.specs.Sections.{Key, KeyTexts, texts, Rows, no_rows, row}
 use Rattle.basic_toml_grammar.specs.Steps.{Path, step_eq, begins, steps_of}
@@ -17,14 +17,14 @@ use Rattle.basic_toml_grammar.specs.Nodes.{node_of_rows, node_of_sections}
 use Rattle.basic_toml_grammar.specs.Tree.{Mention}
 use Rattle.basic_toml_grammar.proofs.AmongElements.{Among, first, next, among_left, among_right, among_either}
 use Rattle.basic_toml_grammar.proofs.Clash.StepTestsDecide.{step_is, step_same}
-use Rattle.basic_toml_grammar.proofs.Nesting.TreeIsAsDeepAsMentions.{bars, barred_by, mention, Peace}
-use Rattle.basic_toml_grammar.proofs.Nesting.TreeIsAsDeepAsMentions.{none, more}
+use Rattle.basic_toml_grammar.proofs.Nesting.TreeIsAsDeepAsMentions.{bars, barred_by, mention, Peace, none, more}
 use Rattle.basic_toml_tree.specs.Outer.{around}
 use Rattle.basic_toml_tree.specs.Stands.{is_root}
+use Rattle.basic_toml_tree.proofs.HeadersMake.{any_of}
 use Rattle.basic_toml_tree.proofs.Nodes.Lines.{Line, path_of, choose, start_among, meets, Apart, Found, within}
 use Rattle.basic_toml_tree.proofs.Nodes.Lines.{ends_key, by_rows, found}
 use Rattle.basic_toml_tree.proofs.Nodes.LinesOfRows.{lines_of, names_of, all_lines, all_sound, apart_all}
-use Rattle.basic_toml_tree.proofs.Origins.RowsAreNodes.{both_begin, goes_on}
+use Rattle.basic_toml_tree.proofs.Origins.RowsAreNodes.{goes_on, neither_begins}
 
 -- the rows of sections, as lines
 module _ (ls : List Located) (last : Option ℕ) where
@@ -49,40 +49,23 @@ module _ (holder : Path → Option ℕ) (p : Path) where
   none_there e [] on free = refl
   none_there e (f ∷ fs) on free =
       let split = or_parts (meets e f) (list_any (meets e) fs) free in
-      go (begins (path_of f) p) refl (begins p (path_of f)) refl split.0 (none_there e fs on split.1)
-    where
-      go : (a : Bool) → begins (path_of f) p ≡ a → (b : Bool) → begins p (path_of f) ≡ b → meets e f ≡ false
-          → choose holder fs p ≡ None
-          → (if a then node_in f.names (holder (front (path_of f))) f.at f.value (drop (length (path_of f)) p)
-          else if b then Some (dotted_node f.names (holder (front p)) f.at) else choose holder fs p) ≡ None
-      go true x b y apart rest = absurd (false≢true (sym apart ∙ both_begin (path_of e) (path_of f) p on x))
-      go false x true y apart rest =
-          absurd (false≢true (sym apart ∙ ap (λ b. b || begins (path_of f) (path_of e))
-          (goes_on (path_of e) p (path_of f) on y)))
-      go false x false y apart rest = rest
+      let other = neither_begins (path_of e) (path_of f) p on split.0 in
+      rw (other.0, other.1) (none_there e fs on split.1)
 
   joined : (es fs : List Line) → Apart (es ++ fs)
       → option_or (choose holder es p) (choose holder fs p) ≡ choose holder (es ++ fs) p
   joined [] fs apart = refl
-  joined (e ∷ es) fs (Apart.more free apart) =
-      go (begins (path_of e) p) refl (begins p (path_of e)) (joined es fs apart)
+  joined (e ∷ es) fs (Apart.more free apart) = elim (cases_Bool (begins (path_of e) p)) [
+    | inl x ↦ rw (x, none_there e fs x (fs_free es free)) (one_none _)
+    | inr x ↦ elim (cases_Bool (begins p (path_of e))) [
+      | inl y ↦ rw (x, y) refl
+      | inr y ↦ rw (x, y) (joined es fs apart)
+    ]
+  ]
     where
       fs_free : (es : List Line) → list_any (meets e) (es ++ fs) ≡ false → list_any (meets e) fs ≡ false
       fs_free [] free = free
       fs_free (g ∷ es) free = fs_free es (or_parts (meets e g) (list_any (meets e) (es ++ fs)) free).1
-
-      value : Option Node
-      value = node_in e.names (holder (front (path_of e))) e.at e.value (drop (length (path_of e)) p)
-
-      go : (a : Bool) → begins (path_of e) p ≡ a → (b : Bool)
-          → option_or (choose holder es p) (choose holder fs p) ≡ choose holder (es ++ fs) p
-          → option_or (if a then value else if b then Some (dotted_node e.names (holder (front p)) e.at)
-          else choose holder es p) (choose holder fs p)
-          ≡ (if a then value else if b then Some (dotted_node e.names (holder (front p)) e.at)
-          else choose holder (es ++ fs) p)
-      go true x b ih = ap (option_or value) (none_there e fs x (fs_free es free)) ∙ one_none value
-      go false x true ih = refl
-      go false x false ih = ih
 
 apart_rest : (es fs : List Line) → Apart (es ++ fs) → Apart fs
 apart_rest [] fs apart = apart
@@ -108,13 +91,10 @@ starts_rows base name (row ks at v rows) p =
 starts_both : (es fs : List Line) (p : Path)
     → option_or (start_among es p) (start_among fs p) ≡ start_among (es ++ fs) p
 starts_both [] fs p = refl
-starts_both (e ∷ es) fs p = go (begins p (path_of e)) (starts_both es fs p)
-  where
-    go : (b : Bool) → option_or (start_among es p) (start_among fs p) ≡ start_among (es ++ fs) p
-        → option_or (if b then Some e.at else start_among es p) (start_among fs p)
-        ≡ (if b then Some e.at else start_among (es ++ fs) p)
-    go true ih = refl
-    go false ih = ih
+starts_both (e ∷ es) fs p = elim (cases_Bool (begins p (path_of e))) [
+  | inl x ↦ rw x refl
+  | inr x ↦ rw x (starts_both es fs p)
+]
 
 starts_all : (ls : List Located) (p : Path) → first_start ls p ≡ start_among (all_lines ls) p
 starts_all [] p = refl
@@ -178,16 +158,10 @@ lines_mentioned e base name (row ks at v rows) (next a) = next (lines_mentioned 
 
 all_mentioned : (e : Line) (ls : List Located) → Among e (all_lines ls) → Among (mention_of e) (mentions ls)
 all_mentioned e [] a = elim a [ ]
-all_mentioned e (l ∷ ls) a =
-    go (among_either (lines_of l.path (names_of l) l.section.rows) (all_lines ls) a) (λ a. all_mentioned e ls a)
-  where
-    go : Among e (lines_of l.path (names_of l) l.section.rows) ⊎ Among e (all_lines ls)
-        → (Among e (all_lines ls) → Among (mention_of e) (mentions ls))
-        → Among (mention_of e) (mentions (l ∷ ls))
-    go (inl a) ih =
-        among_left (mentions ls)
-        (next (lines_mentioned e l.path (names_of l) l.section.rows a))
-    go (inr a) ih = among_right (mention l.path None ∷ row_mentions l.path l.section.rows) (ih a)
+all_mentioned e (l ∷ ls) a = elim (among_either (lines_of l.path (names_of l) l.section.rows) (all_lines ls) a) [
+  | inl a ↦ among_left (mentions ls) (next (lines_mentioned e l.path (names_of l) l.section.rows a))
+  | inr a ↦ among_right (mention l.path None ∷ row_mentions l.path l.section.rows) (all_mentioned e ls a)
+]
 
 paths_mentioned : (l : Located) (ls : List Located) → Among l ls → Among (mention l.path None) (mentions ls)
 paths_mentioned l [] a = elim a [ ]
@@ -195,21 +169,10 @@ paths_mentioned l (k ∷ ls) first = first
 paths_mentioned l (k ∷ ls) (next a) =
     among_right (mention k.path None ∷ row_mentions k.path k.section.rows) (paths_mentioned l ls a)
 
-some_below : (p : Path) (ls : List Located) → list_any (λ l. begins p l.path) ls ≡ true
-    → (l : Located) × Among l ls × (begins p l.path ≡ true)
-some_below p [] some = absurd (false≢true some)
-some_below p (l ∷ ls) some = go (begins p l.path) refl some (λ e. some_below p ls e)
-  where
-    go : (b : Bool) → begins p l.path ≡ b → (b || list_any (λ l. begins p l.path) ls) ≡ true
-        → (list_any (λ l. begins p l.path) ls ≡ true → (k : Located) × Among k ls × (begins p k.path ≡ true))
-        → (k : Located) × Among k (l ∷ ls) × (begins p k.path ≡ true)
-    go true x some ih = (l, first, x)
-    go false x some ih = let k = ih some in (k.0, next k.1, k.2)
-
 not_made_below : (ls : List Located) → Peace (mentions ls) → (e : Line) → Among e (all_lines ls) → (p : Path)
     → begins (path_of e) p ≡ true → list_any (λ l. begins p l.path) ls ≡ true → ⊥
 not_made_below ls peace e a p on some =
-    let l = some_below p ls some in
+    let l = any_of (λ l. begins p l.path) ls some in
     let bar = value_bars (path_of e) l.0.path (finished e.value) (goes_on (path_of e) p l.0.path on l.2) in
     not_both (mention_of e) (mention l.0.path None) (finished e.value) refl refl peace (all_mentioned e ls a)
     (paths_mentioned l.0 ls l.1) bar.0 bar.1

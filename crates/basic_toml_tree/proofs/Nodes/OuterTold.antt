@@ -1,9 +1,10 @@
 -- The outer offset of a node, as the tree has it and as the section list foretells it.
-use Rattle.std.proofs.Common.{◌≡◌, ℕ, Bool, true, false, List, [], ◌∷◌, Option, Some, None, refl, ap, sym, ◌∙◌, subst}
-use Rattle.std.specs.Prelude.{if◌then◌else◌, IfSome}
+use Rattle.std.proofs.Common.{◌≡◌, ℕ, true, false, List, [], ◌∷◌, Option, Some, None, refl, ap, sym, ◌∙◌, subst}
+use Rattle.std.proofs.Common.{inl, inr}
+use Rattle.std.specs.Prelude.{IfSome}
 use Rattle.std.specs.List.{list_any, list_all}
 use Rattle.std.specs.Option.{option_or}
-use Rattle.std.proofs.lemmas.Bool.{false≢true, or_parts}
+use Rattle.std.proofs.lemmas.Bool.{false≢true, or_parts, cases_Bool}
 use Rattle.basic_toml_grammar.specs.Sections.{Section}
 use Rattle.basic_toml_grammar.specs.Steps.{Path}
 use Rattle.basic_toml_grammar.specs.IndexedPath.{located}
@@ -15,14 +16,14 @@ use Rattle.basic_toml_grammar.specs.Nodes as grammar
 use Rattle.basic_toml_grammar.proofs.Nesting.TreeIsAsDeepAsMentions.{Peace}
 use Rattle.basic_toml_grammar.proofs.Trees.MentionsDoNotOverlap.{mentions_peace}
 use Rattle.basic_toml_tree.specs.declared.node.Node.{Node}
-use Rattle.basic_toml_tree.specs.Origin.{outer_of, last_at}
+use Rattle.basic_toml_tree.specs.Origin.{last_at}
 use Rattle.basic_toml_grow.specs.Origins.{Origin}
 use Rattle.basic_toml_tree.specs.Outer.{around}
 use Rattle.basic_toml_grow.specs.Ways.{sections_origins}
 use Rattle.basic_toml_tree.specs.Stands.{tree_trie, IsNodeAt, StartIsKept}
-use Rattle.basic_toml_tree.proofs.Nodes.MadeNodes.{ForetoldWhere, made_outer_told, made_in_trie, last_same}
+use Rattle.basic_toml_tree.proofs.Nodes.MadeNodes.{made_in_trie, last_same}
 use Rattle.basic_toml_tree.proofs.Nodes.OuterNodes.{OuterBegins, outer_begins}
-use Rattle.basic_toml_tree.proofs.Nodes.RowNodesTold.{located_any, located_keyed, row_told, RowTold}
+use Rattle.basic_toml_tree.proofs.Nodes.RowNodesTold.{located_any, located_keyed, row_told, RowTold, some_both}
 use Rattle.basic_toml_tree.proofs.Origins.RowsAreNodes.{Same, of_node, of_origin, sections_same}
 
 -- where a row begins, and what is kept of it
@@ -77,25 +78,25 @@ module _ (sections : List Section) (p : Path) (node : Node) (is : IsNodeAt secti
 
   outer_is : (n : grammar.Node) → OuterBegins (located sections) (grammar.last_at sections) (around p) n
       → option_or node.outer (last_at node.tree.now) ≡ n.outer_offset
-  outer_is n begins = go (grammar.is_made (located sections) (around p)) refl
-    where
-      go : (b : Bool) → grammar.is_made (located sections) (around p) ≡ b
-          → option_or node.outer (last_at node.tree.now) ≡ n.outer_offset
-      go true made =
-          ap (λ o. option_or o (last_at node.tree.now)) (none_kept (around p) is.stands.outer made)
-          ∙ last_same sections p node is ∙ sym (begins.made made)
-      go false not =
-          let m = begins.row not in
-          let kept = row_kept (around p) is.stands.outer not m.0 m.1 in
-          ap (λ o. option_or o (last_at node.tree.now)) (kept.0 ∙ kept.1.1) ∙ sym kept.1.1 ∙ sym m.2
+  outer_is n begins = elim (cases_Bool (grammar.is_made (located sections) (around p))) [
+    | inl made ↦
+        ap (λ o. option_or o (last_at node.tree.now)) (none_kept (around p) is.stands.outer made)
+        ∙ last_same sections p node is ∙ sym (begins.made made)
+    | inr not ↦
+        let m = begins.row not in
+        let kept = row_kept (around p) is.stands.outer not m.0 m.1 in
+        ap (λ o. option_or o (last_at node.tree.now)) (kept.0 ∙ kept.1.1) ∙ sym kept.1.1 ∙ sym m.2
+  ]
 
   -- a node that headers did not make
-  row_outer : grammar.is_made (located sections) p ≡ false
-      → IfSome (grammar.node_at sections p) (λ found. option_or node.outer (last_at node.tree.now) ≡ found.outer_offset)
+  pub row_outer : grammar.is_made (located sections) p ≡ false
+      → IfSome (grammar.node_at sections p) (λ found. RowTold node found
+      × (option_or node.outer (last_at node.tree.now) ≡ found.outer_offset))
   row_outer not =
       let ls = located sections in
       let last = grammar.last_at sections in
-      rw not (go (grammar.node_of_sections ls last ls p) refl)
+      some_both (grammar.node_at sections p) (row_told sections p node is not)
+      (rw not (go (grammar.node_of_sections ls last ls p) refl)) (λ found told outer. (told, outer))
     where
       go : (n : Option grammar.Node)
           → grammar.node_of_sections (located sections) (grammar.last_at sections) (located sections) p ≡ n
@@ -103,24 +104,3 @@ module _ (sections : List Section) (p : Path) (node : Node) (is : IsNodeAt secti
       go None there = tt
       go (Some n) there =
           outer_is n (outer_begins (located sections) (grammar.last_at sections) peace free keyed p not n there)
-
-both_then : {A : Type 0} (o : Option A) (P Q R : A → Type 0) → ((x : A) → P x → Q x → R x) → IfSome o P → IfSome o Q
-    → IfSome o R
-both_then None P Q R f p q = tt
-both_then (Some x) P Q R f p q = f x p q
-
-pub outer_told : (outer : Option ℕ) (node : Node) → outer ≡ outer_of node → (sections : List Section) (p : Path)
-    → ForetoldWhere sections p node (λ found. outer ≡ found.outer_offset)
-unfolding outer_of
-outer_told outer node same sections p is = go (grammar.is_made (located sections) p) refl
-  where
-    go : (b : Bool) → grammar.is_made (located sections) p ≡ b
-        → IfSome (grammar.node_at sections p) (λ found. outer ≡ found.outer_offset)
-    go true made = made_outer_told outer node same sections p is made
-    go false not =
-        both_then (grammar.node_at sections p) (RowTold node)
-        (λ found. option_or node.outer (last_at node.tree.now) ≡ found.outer_offset)
-        (λ found. outer ≡ found.outer_offset)
-        (λ found told here. same
-        ∙ ap (λ b. if b then last_at node.tree.now else option_or node.outer (last_at node.tree.now)) told.made ∙ here)
-        (row_told sections p node is not) (row_outer sections p node is not)

@@ -1,20 +1,16 @@
 -- The offset that names a node in errors, by the section list: where the node begins, but for an array the outer
 -- offset.
-use Rattle.std.proofs.Common.{◌≡◌, ◌⊎◌, inl, inr, ℕ, Bool, true, false, List, [], ◌∷◌, Option, Some}
-use Rattle.std.proofs.Common.{None, refl, ap}
+use Rattle.std.proofs.Common.{◌≡◌, ◌⊎◌, inl, inr, ℕ, Bool, true, false, List, [], ◌∷◌, Option, Some, None, refl, ap}
 use Rattle.std.proofs.Common.{sym, ◌∙◌, rules, codes, length, drop, ◌++◌}
 use Rattle.std.specs.Prelude.{if◌then◌else◌, IfSome}
 use Rattle.std.specs.Option.{option_or}
 use Rattle.std.specs.Str.{bytes_eq}
-use Rattle.basic_toml_grammar.specs.Sections.{KeyTexts, texts, Raw, Rows, no_rows}
-use Rattle.basic_toml_grammar.specs.Sections.{row}
-use Rattle.basic_toml_grammar.specs.Sections.{Section}
-use Rattle.basic_toml_grammar.specs.Steps.{Path, begins, steps_of, keys_of}
+use Rattle.basic_toml_grammar.specs.Sections.{KeyTexts, texts, Raw, Rows, no_rows, row, Section}
+use Rattle.basic_toml_grammar.specs.Steps.{Path, begins, steps_of}
 use Rattle.basic_toml_grammar.specs.IndexedPath.{Located, located}
 use Rattle.basic_toml_grammar.specs.NamedClash.{first_key}
 use Rattle.basic_toml_grammar.specs.Nodes.{Node, front, value_node, dotted_node, node_in}
-use Rattle.basic_toml_grammar.specs.Nodes.{holder, node_of_rows, node_of_sections, node_at, made_node, is_made}
-use Rattle.basic_toml_grammar.specs.Nodes.{last_at, is_array, raw_name}
+use Rattle.basic_toml_grammar.specs.Nodes.{holder, node_of_rows, node_of_sections, node_at, is_made, last_at, raw_name}
 use Rattle.basic_toml_read.specs.declared.section.Raw as raws
 use Rattle.basic_toml_read.specs.declared.section.Raw.TheOpen.{Raw-F}
 use Rattle.basic_toml_read.specs.declared.section.Element.{Element}
@@ -30,11 +26,9 @@ use Rattle.basic_toml_tree.specs.declared.node.Node as nodes
 use Rattle.basic_toml_tree.specs.declared.spot.Spot.{Spot}
 use Rattle.basic_toml_tree.specs.declared.spot.Spot.TheVariants as spots
 use Rattle.basic_toml_tree.specs.Origin.{is_array_literal, item_name, spot_name, spot_is_made, holds_tables, start_of}
-use Rattle.basic_toml_tree.specs.Origin.{outer_of, offset_of, item_is_literal, raw_is_array}
-use Rattle.basic_toml_tree.proofs.Nodes.MadeNodes.{ForetoldWhere, made_offset_told}
+use Rattle.basic_toml_tree.specs.Origin.{outer_of, offset_of, item_is_literal, raw_is_array, last_at as tree_last}
 use Rattle.basic_toml_tree.proofs.Nodes.NodesOfValues.{one_of, in_value}
-use Rattle.basic_toml_tree.proofs.Nodes.OuterTold.{outer_told}
-use Rattle.basic_toml_tree.proofs.Nodes.RowNodesTold.{RowTold, row_told, start_told}
+use Rattle.basic_toml_tree.proofs.Nodes.RowNodesTold.{RowTold}
 
 abbrev names_array : List ℕ → Bool
 names_array name = bytes_eq name (codes "array")
@@ -46,12 +40,8 @@ Plain n =
     ⊎ ((names_array n.type_name ≡ false) × (n.offset ≡ n.start))
 
 value_plain : (keys : KeyTexts) (outer : Option ℕ) (at : ℕ) (v : Raw) → Plain (value_node keys outer at v)
-value_plain keys outer at (Raw.integer z) = inr (refl, refl)
-value_plain keys outer at (Raw.float z) = inr (refl, refl)
-value_plain keys outer at (Raw.boolean z) = inr (refl, refl)
-value_plain keys outer at (Raw.string z c) = inr (refl, refl)
 value_plain keys outer at (Raw.array z) = inl (refl, refl)
-value_plain keys outer at (Raw.inline z) = inr (refl, refl)
+value_plain keys outer at v = inr (refl, refl)
 
 in_plain : (keys : KeyTexts) (outer : Option ℕ) (at : ℕ) (v : Raw) (p : Path)
     → IfSome (node_in keys outer at v p) Plain
@@ -80,24 +70,9 @@ sections_plain ls last (l ∷ later) p =
     or_plain (node_of_rows ls last l l.section.rows p) (node_of_sections ls last later p)
     (rows_plain ls last l l.section.rows p) (sections_plain ls last later p)
 
-pub plain_at : (sections : List Section) (p : Path) → IfSome (node_at sections p) Plain
-plain_at sections p = go (is_made (located sections) p)
-  where
-    go : (b : Bool) → IfSome (if b then Some (made_node (located sections) (last_at sections) p)
-        else node_of_sections (located sections) (last_at sections) (located sections) p) Plain
-    go true = made (is_array (located sections) p)
-      where
-        made : (b : Bool) → Plain (record {
-          type_name = (if b then codes "array" else codes "table");
-          start = last_at sections;
-          offset = last_at sections;
-          outer_offset = last_at sections;
-          key_path = keys_of p;
-          is_slice = false;
-        })
-        made true = inl (refl, refl)
-        made false = inr (refl, refl)
-    go false = sections_plain (located sections) (last_at sections) (located sections) p
+pub plain_at : (sections : List Section) (p : Path) → is_made (located sections) p ≡ false
+    → IfSome (node_at sections p) Plain
+plain_at sections p not = rw not (sections_plain (located sections) (last_at sections) (located sections) p)
 
 literal_name : (count : ℕ) (spot : Spot) → spot_is_made count spot ≡ false
     → names_array (spot_name count spot) ≡ is_array_literal spot
@@ -110,68 +85,30 @@ literal_name count (spots.Item b) not = go (out-Item b.now) not
   where
     go : (x : Item-F Item Child Table) → holds_tables x ≡ false
         → names_array (item_name x) ≡ item_is_literal x
-    go (Item-F.Array z) not = refl
-    go (Item-F.Integer z) not = refl
-    go (Item-F.Float z) not = refl
-    go Item-F.True not = refl
-    go Item-F.False not = refl
-    go (Item-F.String z) not = refl
-    go (Item-F.Escaped z) not = refl
-    go (Item-F.Plain z) not = refl
-    go (Item-F.Rows z) not = refl
-    go (Item-F.Inline z) not = refl
-    go (Item-F.Table z) not = refl
-    go (Item-F.Section z) not = refl
     go (Item-F.Tables y) not = absurd (false≢true (sym not))
     go (Item-F.Sections y) not = absurd (false≢true (sym not))
+    go x not = refl
 literal_name count (spots.Plain b) not =
     ap (λ v. names_array (raw_name (raw_of v))) (sym (raws.roll-out-Raw b.value.now)) ∙ go (raws.out-Raw b.value.now)
   where
     go : (x : Raw-F raws.Raw Element Row code_rows.Rows) → names_array (raw_name (raw_of (raws.roll-Raw x)))
         ≡ raw_is_array x
-    go (Raw-F.Integer z) = search (rules, raws.the_lemmas)
-    go (Raw-F.Float z) = search (rules, raws.the_lemmas)
-    go Raw-F.True = search (rules, raws.the_lemmas)
-    go Raw-F.False = search (rules, raws.the_lemmas)
-    go (Raw-F.String z) = search (rules, raws.the_lemmas)
-    go (Raw-F.Escaped z) = search (rules, raws.the_lemmas)
     go (Raw-F.Array z) = search (rules, raws.the_lemmas)
-    go (Raw-F.Inline z) = search (rules, raws.the_lemmas)
-    go (Raw-F.Dotted z) = search (rules, raws.the_lemmas)
+    go x = search (rules, raws.the_lemmas)
 
 -- a node that headers did not make
 module _ (node : nodes.Node) (found : Node) (told : RowTold node found) where
-  row_place : outer_of node ≡ found.outer_offset → start_of node ≡ found.start → Plain found
-      → (if is_array_literal node.spot then outer_of node else start_of node) ≡ found.offset
-  row_place outer start plain = go (is_array_literal node.spot) (named) plain
+  pub row_place : option_or node.outer (tree_last node.tree.now) ≡ found.outer_offset → Plain found
+      → offset_of node ≡ found.offset
+  unfolding offset_of start_of outer_of
+  row_place outer plain = rw (told.made) (go (is_array_literal node.spot) named plain)
     where
       named : names_array found.type_name ≡ is_array_literal node.spot
       named = ap names_array (sym told.name) ∙ literal_name node.count node.spot told.made
 
       go : (b : Bool) → names_array found.type_name ≡ b → Plain found
-          → (if b then outer_of node else start_of node) ≡ found.offset
+          → (if b then option_or node.outer (tree_last node.tree.now) else Some node.start) ≡ found.offset
       go true name (inl array) = outer ∙ sym array.1
       go true name (inr other) = absurd (false≢true (sym other.0 ∙ name))
       go false name (inl array) = absurd (false≢true (sym name ∙ array.0))
-      go false name (inr other) = start ∙ sym other.1
-
--- four facts of what is there
-some_four : {A : Type 0} (o : Option A) (P Q R S T : A → Type 0) → ((x : A) → P x → Q x → R x → S x → T x)
-    → IfSome o P → IfSome o Q → IfSome o R → IfSome o S → IfSome o T
-some_four None P Q R S T f p q r s = tt
-some_four (Some x) P Q R S T f p q r s = f x p q r s
-
-pub place_told : (place : Option ℕ) (node : nodes.Node) → place ≡ offset_of node → (sections : List Section) (p : Path)
-    → ForetoldWhere sections p node (λ found. place ≡ found.offset)
-unfolding offset_of
-place_told place node same sections p is = go (is_made (located sections) p) refl
-  where
-    go : (b : Bool) → is_made (located sections) p ≡ b
-        → IfSome (node_at sections p) (λ found. place ≡ found.offset)
-    go true made = made_offset_told place node same sections p is made
-    go false not =
-        some_four (node_at sections p) (RowTold node) (λ found. outer_of node ≡ found.outer_offset)
-        (λ found. start_of node ≡ found.start) Plain (λ found. place ≡ found.offset)
-        (λ found told outer start plain. same ∙ row_place node found told outer start plain)
-        (row_told sections p node is not) (outer_told (outer_of node) node refl sections p is)
-        (start_told (start_of node) node refl sections p is) (plain_at sections p)
+      go false name (inr other) = told.start ∙ sym other.1

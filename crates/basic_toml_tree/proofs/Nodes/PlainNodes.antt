@@ -2,7 +2,7 @@
 use Rattle.std.proofs.Common.{◌≡◌, ℕ, false, List, [], ◌∷◌, map, length, Some, refl, sym, ap, ◌∙◌, subst, arith, rules}
 use Rattle.std.specs.Prelude.{slice_get, ◌≤◌, Option, None, IfSome, IfNone, MatchOption}
 use Rattle.std.proofs.Math.Path.{fun_ext}
-use Rattle.basic_toml_value.specs.Data.{Data}
+use Rattle.std.proofs.lemmas.List.{length-map}
 use Rattle.basic_toml_grammar.specs.Mentions.{finished, finished_elements}
 use Rattle.basic_toml_grammar.specs.Nodes.{raw_name, raw_is_slice}
 use Rattle.basic_toml_grammar.specs.Sections.{Raw}
@@ -21,9 +21,9 @@ use Rattle.basic_toml_tree.specs.declared.spot.Spot.TheVariants as spots
 use Rattle.basic_toml_tree.specs.Nodes as seen
 use Rattle.basic_toml_tree.specs.Origin.{is_string}
 use Rattle.basic_toml_grow.specs.Origins.{under, at_numbers, value_origins, elements_origins}
-use Rattle.basic_toml_tree.specs.Stands.{SpotComes, ComesFrom, IsPlainElement, spot_origins, node_origins}
-use Rattle.basic_toml_tree.proofs.Nodes.NodesInOrder.{mapped_length}
-use Rattle.basic_toml_tree.proofs.Nodes.NodesCome.{not_marked, read_mapped}
+use Rattle.basic_toml_tree.specs.Stands.{SpotComes, ComesFrom, IsPlainElement, spot_origins, node_origins, AtNumber}
+use Rattle.basic_toml_tree.proofs.Nodes.NodesInOrder.{read_mapped}
+use Rattle.basic_toml_tree.proofs.Nodes.NodesCome.{not_marked}
 
 -- elements, one after another
 datas_placed : (ls : List Placed) → seen.listed (finished_elements (elements_from ls)) ≡ map (λ e. finished e.value) ls
@@ -46,7 +46,7 @@ plain_elements es = datas_placed (map placed_of es) ∙ both es
     both (e ∷ es) = ap (λ ds. finished (placed_of e).value ∷ ds) (both es)
 
 pub plain_length : (es : List Element) → length (seen.elements_in (finished (plain_array es))) ≡ length es
-plain_length es = ap length (plain_elements es) ∙ mapped_length (λ e. finished (placed_of e).value) es
+plain_length es = ap length (plain_elements es) ∙ length-map es (λ e. finished (placed_of e).value)
 
 pub plain_read : (es : List Element) (n : ℕ) (at : ℕ) (v : Raw)
     → slice_get (map placed_of es) n ≡ Some (record { offset = at; value = v })
@@ -64,27 +64,16 @@ own_is : (v : Raw) (at s : ℕ)
       section = s;
       is_slice = raw_is_slice v;
     })
-own_is (Raw.integer z) at s = λ apart. refl
-own_is (Raw.float z) at s = λ apart. refl
-own_is (Raw.boolean z) at s = λ apart. refl
 own_is (Raw.string z c) at s = λ apart. refl
-own_is (Raw.array z) at s = λ apart. refl
-own_is (Raw.inline z) at s = λ apart. refl
+own_is v at s = λ apart. refl
 
 -- it is a slice where the code has one
 plain_slice : (v : raws.Raw) → raw_is_slice (raw_of v) ≡ is_string (raws.out-Raw v)
 plain_slice v = ap (λ v. raw_is_slice (raw_of v)) (sym (raws.roll-out-Raw v)) ∙ go (raws.out-Raw v)
   where
     go : (x : Raw-F raws.Raw Element Row code_rows.Rows) → raw_is_slice (raw_of (raws.roll-Raw x)) ≡ is_string x
-    go (Raw-F.Integer z) = search (rules, raws.the_lemmas)
-    go (Raw-F.Float z) = search (rules, raws.the_lemmas)
-    go Raw-F.True = search (rules, raws.the_lemmas)
-    go Raw-F.False = search (rules, raws.the_lemmas)
     go (Raw-F.String z) = search (rules, raws.the_lemmas)
-    go (Raw-F.Escaped z) = search (rules, raws.the_lemmas)
-    go (Raw-F.Array z) = search (rules, raws.the_lemmas)
-    go (Raw-F.Inline z) = search (rules, raws.the_lemmas)
-    go (Raw-F.Dotted z) = search (rules, raws.the_lemmas)
+    go x = search (rules, raws.the_lemmas)
 
 pub value_comes : (v : PlainValue) (count at s : ℕ)
     → SpotComes (value_origins s at (raw_of v.value.now)) count (spots.Plain v) at
@@ -114,25 +103,23 @@ module _ (from node : Node) (es : List Element) (n : ℕ) (is : IsPlainElement f
       (sym is.spot) (value_comes is.plain node.count node.start s))
 
 -- what is answered for a number of an array of plain elements
-pub plain_answers : (from : Node) (es : List Element) (n : ℕ) (d : Data) (result : Option Node)
-    → d ≡ finished (plain_array es) → IfNone result (length es ≤ n)
-    → IfSome result (λ node. IsPlainElement from es n node)
-    → MatchOption result (length (seen.elements_in d) ≤ n)
-    (λ node. slice_get (seen.elements_in d) n ≡ Some (seen.node_data node))
-plain_answers from es n d None is past some =
-    let long = ap (λ d. length (seen.elements_in d)) is ∙ plain_length es in omega (arith, past, long)
-plain_answers from es n d (Some node) is past some =
+pub plain_given : (from : Node) (es : List Element) (n : ℕ) (result : Option Node)
+    → seen.node_data from ≡ finished (plain_array es) → IfNone result (length es ≤ n)
+    → IfSome result (IsPlainElement from es n)
+    → ((node : Node) → IsPlainElement from es n node
+    → slice_get (seen.elements_in (seen.node_data from)) n ≡ Some (seen.node_data node) → AtNumber from n node)
+    → MatchOption result (length (seen.elements_in (seen.node_data from)) ≤ n)
+    (λ node. slice_get (seen.elements_in (seen.node_data from)) n ≡ Some (seen.node_data node))
+    × IfSome result (AtNumber from n)
+plain_given from es n None is past some stands =
+    let long = ap (λ d. length (seen.elements_in d)) is ∙ plain_length es in (omega (arith, past, long), tt)
+plain_given from es n (Some node) is past some stands =
+    let read : slice_get (seen.elements_in (seen.node_data from)) n ≡ Some (seen.node_data node) =
     ap (λ d. slice_get (seen.elements_in d) n) is
     ∙ plain_read es n node.start (raw_of some.plain.value.now) some.placed
-    ∙ sym (ap (λ spot. Some (seen.spot_data spot)) some.spot)
+    ∙ sym (ap (λ spot. Some (seen.spot_data spot)) some.spot) in (read, stands node some read)
 
 -- an element, and its value
 pub element_placed : (e : Element)
     → placed_of e ≡ record { offset = (out-Element e).offset; value = raw_of (out-Element e).value }
 element_placed e = search (rules, raws.the_lemmas)
-
--- of a node that is answered, with what is read there
-pub some_read : (result : Option Node) (Past : Type 0) (P Q R : Node → Type 0)
-    → ((node : Node) → P node → Q node → R node) → IfSome result P → MatchOption result Past Q → IfSome result R
-some_read None Past P Q R f some read = tt
-some_read (Some node) Past P Q R f some read = f node some read

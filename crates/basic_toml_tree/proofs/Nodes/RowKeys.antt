@@ -1,10 +1,11 @@
 -- The keys that lead to what rows give: those of the section's header, and the first key of the row.
 use Rattle.std.proofs.Common.{◌≡◌, ◌⊎◌, inl, inr, ℕ, zero, suc, ◌+◌, Bool, true, false, List, [], ◌∷◌, ◌++◌, Option}
 use Rattle.std.proofs.Common.{Some, None, refl, ap, sym, ◌∙◌, subst, arith, length, drop, slice_get}
-use Rattle.std.specs.Prelude.{⊤, ◌||◌, ◌&&◌, if◌then◌else◌, IfSome}
+use Rattle.std.specs.Prelude.{⊤, ◌&&◌, if◌then◌else◌, IfSome}
 use Rattle.std.specs.List.{list_any, list_all}
 use Rattle.std.specs.Option.{option_or}
-use Rattle.std.proofs.lemmas.Bool.{false≢true, and_parts}
+use Rattle.std.proofs.lemmas.Bool.{false≢true, and_parts, or_parts}
+use Rattle.std.proofs.lemmas.Option.{IfSome_then}
 use Rattle.basic_toml_grammar.specs.Sections.{KeyTexts, texts, Raw, Elements, no_elements, element, Rows, no_rows}
 use Rattle.basic_toml_grammar.specs.Sections.{Key, row}
 use Rattle.basic_toml_grammar.specs.Steps.{Step, key, number, Path, step_eq, begins, steps_of}
@@ -12,18 +13,13 @@ use Rattle.basic_toml_grammar.specs.RowClash.{rows_clash}
 use Rattle.basic_toml_grammar.specs.IndexedPath.{Located}
 use Rattle.basic_toml_grammar.specs.Entering.{has_key, keyed_within, value_keyed}
 use Rattle.basic_toml_grammar.specs.NamedClash.{first_key}
-use Rattle.basic_toml_grammar.specs.Nodes.{Node, front, dotted_node, node_in, holder}
-use Rattle.basic_toml_grammar.specs.Nodes.{node_of_rows, node_of_sections}
+use Rattle.basic_toml_grammar.specs.Nodes.{Node, front, dotted_node, node_in, holder, node_of_rows, node_of_sections}
 use Rattle.basic_toml_grammar.proofs.Clash.StepTestsDecide.{step_is}
 use Rattle.basic_toml_grow.specs.Origins.{Origin, Origins, under, table_origin, along}
 use Rattle.basic_toml_grow.specs.Origins.{row_origins, value_origins, elements_origins, rows_origins}
 use Rattle.basic_toml_grow.specs.Ways.{sections_origins}
 use Rattle.basic_toml_tree.proofs.Nodes.NodesOfValues.{one_of, in_value}
 use Rattle.basic_toml_tree.proofs.Origins.RowsAreNodes.{Same, begins_on, goes_from, rows_apart, section_same}
-
-some_then : {A : Type 0} (o : Option A) (P Q : A → Type 0) → ((x : A) → P x → Q x) → IfSome o P → IfSome o Q
-some_then None P Q f p = tt
-some_then (Some x) P Q f p = f x p
 
 -- below a value the keys stay
 abbrev Keeps : KeyTexts → Node → Type 0
@@ -54,11 +50,11 @@ module _ (ls : List Located) (last : Option ℕ) (l : Located) (r : Step) (q : P
       one_of (begins path p) (begins p path)
       (node_in keys (holder ls last (front path)) at v (drop (length path) p)) (node_of_rows ls last l rows p)
       (dotted_node keys (holder ls last (front p)) at) FromRow
-      (λ e. some_then (node_in keys (holder ls last (front path)) at v (drop (length path) p)) (Keeps keys) FromRow
+      (λ e. IfSome_then (node_in keys (holder ls last (front path)) at v (drop (length path) p))
+      (in_keeps keys (holder ls last (front path)) at v (drop (length path) p))
       (λ m. from_key k ks m (sym (step_is (key k.text) r
       (and_parts (step_eq (key k.text) r) (begins (steps_of (texts ks)) q)
-      (sym (begins_on l.path steps (r ∷ q)) ∙ e)).0)))
-      (in_keeps keys (holder ls last (front path)) at v (drop (length path) p)))
+      (sym (begins_on l.path steps (r ∷ q)) ∙ e)).0))))
       (λ e. from_key k ks (dotted_node keys (holder ls last (front p)) at) (step_is r (key k.text)
       (and_parts (step_eq r (key k.text)) (begins q (steps_of (texts ks)))
       (sym (begins_on l.path (r ∷ q) steps) ∙ e)).0) refl)
@@ -88,19 +84,10 @@ row_bears (k ∷ l ∷ ks) d f P own below (t ∷ u ∷ p) =
 
 mutual
   value_bears : (s at : ℕ) (v : Raw) (p : Path) → IfSome (value_origins s at v p) (Of s)
-  value_bears s at (Raw.integer z) [] = refl
-  value_bears s at (Raw.float z) [] = refl
-  value_bears s at (Raw.boolean z) [] = refl
-  value_bears s at (Raw.string z c) [] = refl
-  value_bears s at (Raw.array es) [] = refl
-  value_bears s at (Raw.inline rows) [] = refl
-  value_bears s at (Raw.integer z) (r ∷ p) = tt
-  value_bears s at (Raw.float z) (r ∷ p) = tt
-  value_bears s at (Raw.boolean z) (r ∷ p) = tt
-  value_bears s at (Raw.string z c) (r ∷ p) = tt
-  value_bears s at (Raw.array es) (key k ∷ p) = tt
   value_bears s at (Raw.array es) (number n ∷ p) = elements_bear s es n p
   value_bears s at (Raw.inline rows) (r ∷ p) = rows_bear s rows (r ∷ p)
+  value_bears s at v [] = refl
+  value_bears s at v p = tt
 
   elements_bear : (s : ℕ) (es : Elements) (n : ℕ) (p : Path)
       → IfSome (under (slice_get (elements_origins s es) n) p) (Of s)
@@ -174,18 +161,14 @@ module _ (n : ℕ) (l : Located) (later : List Located) (p : Path) where
     keys = from.3;
   }
 
-pub either : (a b : Bool) → (a || b) ≡ false → (a ≡ false) × (b ≡ false)
-either false b e = (refl, e)
-either true b e = absurd (cc)
-
 pub sections_found : (ls : List Located) (last : Option ℕ) (n : ℕ) (later : List Located) (p : Path)
     → list_any (λ l. begins p l.path) later ≡ false → list_any (λ l. rows_clash l.section.rows) later ≡ false
     → list_all (λ l. keyed_within l.section.rows) later ≡ true
     → Both (node_of_sections ls last later p) (sections_origins n later p) (FoundIn n later p)
 sections_found ls last n [] p back apart keyed = tt
 sections_found ls last n (l ∷ later) p back apart keyed =
-    let b = either (begins p l.path) (list_any (λ l. begins p l.path) later) back in
-    let a = either (rows_clash l.section.rows) (list_any (λ l. rows_clash l.section.rows) later) apart in
+    let b = or_parts (begins p l.path) (list_any (λ l. begins p l.path) later) back in
+    let a = or_parts (rows_clash l.section.rows) (list_any (λ l. rows_clash l.section.rows) later) apart in
     let k = and_parts (keyed_within l.section.rows) (list_all (λ l. keyed_within l.section.rows) later) keyed in
     one_found n l later p (node_of_rows ls last l l.section.rows p) (node_of_sections ls last later p)
     (along l.path (rows_origins n l.section.rows) p) (sections_origins (suc n) later p)
@@ -198,9 +181,9 @@ sections_found ls last n (l ∷ later) p back apart keyed =
         → IfSome (node_of_rows ls last l l.section.rows p) (FromSection n l later p)
     from back keyed (inl x) =
         subst (λ p. IfSome (node_of_rows ls last l l.section.rows p) (FromSection n l later p)) (sym x.2)
-        (some_then (node_of_rows ls last l l.section.rows (l.path ++ x.0 ∷ x.1)) (FromRow ls last l x.0 x.1)
-        (FromSection n l later (l.path ++ x.0 ∷ x.1)) (λ m row. (row.0, x.1, ap (λ r. l.path ++ r ∷ x.1) row.1, row.2))
-        (rows_keep ls last l x.0 x.1 l.section.rows keyed))
+        (IfSome_then (node_of_rows ls last l l.section.rows (l.path ++ x.0 ∷ x.1))
+        (rows_keep ls last l x.0 x.1 l.section.rows keyed)
+        (λ m row. (row.0, x.1, ap (λ r. l.path ++ r ∷ x.1) row.1, row.2)))
     from back keyed (inr not) =
         subst (λ m. IfSome m (FromSection n l later p))
         (sym (rows_apart ls last l n l.section.rows p not back)) tt

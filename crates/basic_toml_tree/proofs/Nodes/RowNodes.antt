@@ -1,15 +1,17 @@
 -- The nodes of the rows of an inline table with plain values.
-use Rattle.std.proofs.Common.{◌≡◌, ◌<◌, ◌≤◌, ◌+◌, ◌⊎◌, inl, inr, ℕ, zero, suc, Bool, true, false, List, [], ◌∷◌, ◌++◌}
-use Rattle.std.proofs.Common.{Option, Some, None, map, length, take, drop, get_or, refl, ap, ap₂, sym, ◌∙◌, subst}
+use Rattle.std.proofs.Common.{◌≡◌, ◌<◌, ◌≤◌, ◌+◌, inl, inr, ℕ, zero, suc, Bool, true, false, List, [], ◌∷◌, ◌++◌}
+use Rattle.std.proofs.Common.{Some, None, map, length, take, drop, get_or, refl, ap, ap₂, sym, ◌∙◌, subst}
 use Rattle.std.proofs.Common.{arith, rules, IsTrue, Vec, Global}
-use Rattle.std.specs.Prelude.{◌&&◌, if◌then◌else◌, not, nat_le, slice_get, IfSome}
+use Rattle.std.specs.Prelude.{if◌then◌else◌, not, nat_le, slice_get, IfSome}
 use Rattle.std.specs.Option.{option_or}
 use Rattle.std.specs.Borrow.{Bor}
 use Rattle.std.specs.Str.{bytes_eq}
 use Rattle.std.proofs.Math.Path.{fun_ext}
-use Rattle.std.proofs.lemmas.Bool.{false≢true, and_parts, or_parts}
-use Rattle.std.proofs.lemmas.List.{take_more, map-append}
-use Rattle.std.proofs.lemmas.Option.{slice_get-get_or, get_or_from_slice_get}
+use Rattle.std.proofs.lemmas.Bool.{false≢true, and_parts, or_parts, false_from_ne_true, not-true}
+use Rattle.std.proofs.lemmas.List.{take_more, map-append, length-map, drop_all}
+use Rattle.std.proofs.lemmas.Option.{get_or_from_slice_get, slice_get_within}
+use Rattle.std.specs.Iterator.{MakesProgress, item_count}
+use Rattle.std.specs.declared.iter.Iterator.{can_next-default}
 use Rattle.basic_toml_value.specs.Data.{Data, members_of}
 use Rattle.basic_toml_index.specs.Index.{few}
 use Rattle.basic_toml_index.specs.Keys.{is_among, are_distinct}
@@ -36,14 +38,14 @@ use Rattle.basic_toml_plain.proofs.SimpleKeys.{keys_differ}
 use Rattle.basic_toml_plain.proofs.RowsData.{few_data, row_keys}
 use Rattle.basic_toml_plain.proofs.PlainLeft.{row_at}
 use Rattle.basic_toml_grow.specs.Item.{item_trie}
-use Rattle.basic_toml_grow.specs.Origins.{value_origins, rows_origins, item_origins, table_within, entry}
-use Rattle.basic_toml_grow.specs.Origins.{table_origin}
+use Rattle.basic_toml_grow.specs.Origins.{value_origins, rows_origins, item_origins, table_within, entry, table_origin}
 use Rattle.basic_toml_grow.specs.declared.item.Item.{Item, out-Item, the_lemmas}
 use Rattle.basic_toml_grow.specs.declared.item.Item.TheOpen.{Item-F}
 use Rattle.basic_toml_grow.specs.declared.item.Item.TheViews.{roll-Item}
 use Rattle.basic_toml_grow.specs.declared.item.Child.{Child}
 use Rattle.basic_toml_grow.specs.declared.item.Table.{Table}
 use Rattle.basic_toml_grow.proofs.ItemsStand.{shape}
+use Rattle.basic_toml_grow.proofs.Origins.OriginsSeen.{or_none}
 use Rattle.basic_toml_tree.specs.Data.{data_of}
 use Rattle.basic_toml_tree.specs.Keys.{KeysLead, KeepsRow, RowsLead}
 use Rattle.basic_toml_tree.specs.Nodes.{node_data, spot_data, data_among, data_at, entries_in, entries_left}
@@ -54,27 +56,21 @@ use Rattle.basic_toml_tree.specs.Resolve.{IsResolved}
 use Rattle.basic_toml_tree.specs.Stands.{AtKey, IsRowAt, ComesFrom, SpotComes, HoldsRows, ItemRows, RawRows}
 use Rattle.basic_toml_tree.specs.Stands.{IsPlainRow, StandsAt, StandsOn}
 use Rattle.basic_toml_tree.specs.Stands.{StartIsKept, spot_trie, spot_origins, node_origins, tree_trie, trie_at}
-use Rattle.basic_toml_tree.specs.Stands.{is_wrapper, wraps_table}
+use Rattle.basic_toml_tree.specs.Stands.{is_wrapper, wraps_table, GivesEntry}
 use Rattle.basic_toml_tree.specs.declared.entries.Entries.{Entries}
 use Rattle.basic_toml_tree.specs.declared.node.Node.{Node}
 use Rattle.basic_toml_tree.specs.declared.plain_value.PlainValue.{PlainValue}
 use Rattle.basic_toml_tree.specs.declared.spot.Spot.{Spot}
 use Rattle.basic_toml_tree.specs.declared.spot.Spot.TheVariants as spots
 use Rattle.basic_toml_tree.specs.declared.tree.Tree.{Tree}
-use Rattle.basic_toml_tree.proofs.Nodes.KeysLead.{EndsAt, last_step}
+use Rattle.basic_toml_tree.proofs.Nodes.KeysLead.{last_step}
 use Rattle.basic_toml_tree.proofs.Nodes.KeysTold.{count_keeps, made_there}
 use Rattle.basic_toml_tree.proofs.Nodes.Lines.{around_key}
-use Rattle.basic_toml_tree.proofs.Nodes.MadeNodes.{made_in_trie}
-use Rattle.basic_toml_tree.proofs.Nodes.NodesCome.{read_mapped}
-use Rattle.basic_toml_tree.proofs.Nodes.NodesInOrder.{drop_next, drop_past, mapped_length, paired-members}
-use Rattle.basic_toml_tree.proofs.Nodes.NodesInOrder.{within_length}
+use Rattle.basic_toml_tree.proofs.Nodes.MadeNodes.{made_in_trie, root_at, table_at}
+use Rattle.basic_toml_tree.proofs.Nodes.NodesInOrder.{drop_next, paired-members, read_mapped, progress}
 use Rattle.basic_toml_tree.proofs.Nodes.NodesStand.{at_more, stands_on}
-use Rattle.basic_toml_tree.proofs.Nodes.OuterStands.{keeps_below, root_is_made, table_is_made}
+use Rattle.basic_toml_tree.proofs.Nodes.OuterStands.{keeps_below}
 use Rattle.basic_toml_tree.proofs.Nodes.PlainNodes.{value_comes}
-
--- the row at a position
-pub row_read : (rs : List Row) (n : ℕ) (r : Row) → n < length rs → r ≡ get_or rs n r → slice_get rs n ≡ Some r
-row_read rs n r within read = slice_get-get_or rs n r within ∙ ap Some (sym read)
 
 -- none of the rows up to a position has a key
 pub none_passed : (rs : List Row) (n : ℕ) (r : Row) (k : List ℕ) → n < length rs → r ≡ get_or rs n r
@@ -91,12 +87,9 @@ none_passed rs n r k within read before other =
 -- the first of rows whose keys differ, and the others
 first_apart : (r : Row) (rs : List Row) → are_distinct (map key_of (r ∷ rs)) ≡ true
     → (is_among (map key_of rs) (key_of r) ≡ false) × (are_distinct (map key_of rs) ≡ true)
-first_apart r rs differ = go (is_among (map key_of rs) (key_of r)) differ
-  where
-    go : (b : Bool) → (not b && are_distinct (map key_of rs)) ≡ true
-        → (b ≡ false) × (are_distinct (map key_of rs) ≡ true)
-    go true is = absurd (false≢true is)
-    go false is = (refl, is)
+first_apart r rs differ =
+    let both = and_parts (not (is_among (map key_of rs) (key_of r))) (are_distinct (map key_of rs)) differ in
+    (not-true (is_among (map key_of rs) (key_of r)) both.0, both.1)
 
 -- a later one has another key
 later_key : (x : Row) (rs : List Row) (n : ℕ) (r : Row) → are_distinct (map key_of (x ∷ rs)) ≡ true
@@ -141,10 +134,6 @@ row_data (x ∷ rs) zero r differ read =
     (rw (bytes_eq-same (key_of x)) refl)
 row_data (x ∷ rs) (suc n) r differ read =
     rw (later_key x rs n r differ read) (row_data rs n r (first_apart x rs differ).1 read)
-
-or_none : {A : Type 0} (o : Option A) → option_or o None ≡ o
-or_none None = refl
-or_none (Some x) = refl
 
 own_origins : (s : ℕ) (rs : List Row) (n : ℕ) (r : Row) (q : Path) → are_distinct (map key_of rs) ≡ true
     → slice_get rs n ≡ Some r
@@ -212,18 +201,7 @@ means (spots.Item b) rs simple holds = go (out-Item b.now) refl holds
               ∙ ap (λ z. rows_origins s (rows_seen [] z) (key k ∷ q)) (sym holds);
           unmade = λ count. ap holds_tables is;
         }
-    go (Item-F.Integer z) is holds = absurd holds
-    go (Item-F.Float z) is holds = absurd holds
-    go Item-F.True is holds = absurd holds
-    go Item-F.False is holds = absurd holds
-    go (Item-F.String z) is holds = absurd holds
-    go (Item-F.Escaped z) is holds = absurd holds
-    go (Item-F.Plain z) is holds = absurd holds
-    go (Item-F.Array z) is holds = absurd holds
-    go (Item-F.Inline z) is holds = absurd holds
-    go (Item-F.Table z) is holds = absurd holds
-    go (Item-F.Tables z) is holds = absurd holds
-    go (Item-F.Sections z) is holds = absurd holds
+    go x is holds = absurd holds
 means (spots.Plain v) rs simple holds = go (raws.out-Raw v.value.now) refl holds
   where
     go : (x : Raw-F raws.Raw Element Row code_rows.Rows) → raws.out-Raw v.value.now ≡ x → RawRows x rs
@@ -238,14 +216,7 @@ means (spots.Plain v) rs simple holds = go (raws.out-Raw v.value.now) refl holds
           origins = λ at s k q. ap (λ v. value_origins s at v (key k ∷ q)) seen;
           unmade = λ count. refl;
         }
-    go (Raw-F.Integer z) is holds = absurd holds
-    go (Raw-F.Float z) is holds = absurd holds
-    go Raw-F.True is holds = absurd holds
-    go Raw-F.False is holds = absurd holds
-    go (Raw-F.String z) is holds = absurd holds
-    go (Raw-F.Escaped z) is holds = absurd holds
-    go (Raw-F.Array z) is holds = absurd holds
-    go (Raw-F.Dotted z) is holds = absurd holds
+    go x is holds = absurd holds
 
 -- the keys of simple rows differ, and their data is that of a table
 module _ (rs : List Row) (simple : are_few_simple 0 rs ≡ true) where
@@ -283,27 +254,21 @@ path_unmade : (from : Node) (tree : Tree) (p : Path) → StandsAt tree p from
     → spot_is_made from.count from.spot ≡ false → (sections : List Section) → IsResolved sections tree
     → grammar.is_made (located sections) p ≡ false
 path_unmade from tree [] stands unmade sections resolved =
-    absurd (false≢true (sym unmade ∙ root_is_made tree from [] stands refl))
+    absurd (false≢true (sym unmade ∙ (root_at tree from [] stands refl).0.made))
 path_unmade from tree (s ∷ p) stands unmade sections resolved =
     made_in_trie sections (tree_trie tree) resolved.stands s p
-    ∙ go (stands_made (standing (trie_at (s ∷ p) (tree_trie tree)))) refl
-  where
-    go : (b : Bool) → stands_made (standing (trie_at (s ∷ p) (tree_trie tree))) ≡ b → b ≡ false
-    go true made = absurd (false≢true (sym unmade ∙ table_is_made tree from (s ∷ p) stands made))
-    go false made = refl
+    ∙ false_from_ne_true (stands_made (standing (trie_at (s ∷ p) (tree_trie tree))))
+    (λ made. false≢true (sym unmade ∙ (table_at tree from (s ∷ p) stands made).0.made))
 
 -- What a node keeps of the keys that lead to a row of an inline table, below which nothing is made.
 module _ (from node : Node) (k : List ℕ) (unmade : spot_is_made from.count from.spot ≡ false)
     (none : wraps_table from.spot ≡ false → below (key k) (spot_trie from.spot) ≡ nothing)
     (trail : node.trail ≡ from.trail) (tree : Tree) (p : Path) (stands : StandsAt tree p from) where
   not_there : trie_at (p ++ key k ∷ []) (tree_trie tree) ≡ nothing
-  not_there = at_more p (key k) (tree_trie tree) ∙ go stands.there
-    where
-      go : (trie_at p (tree_trie tree) ≡ nothing)
-          ⊎ ((spot_trie from.spot ≡ trie_at p (tree_trie tree)) × (wraps_table from.spot ≡ false))
-          → below (key k) (trie_at p (tree_trie tree)) ≡ nothing
-      go (inl nothing_there) = ap (below (key k)) nothing_there
-      go (inr there) = ap (below (key k)) (sym there.0) ∙ none there.1
+  not_there = elim stands.there [
+    | inl nothing_there ↦ at_more p (key k) (tree_trie tree) ∙ ap (below (key k)) nothing_there
+    | inr there ↦ at_more p (key k) (tree_trie tree) ∙ ap (below (key k)) (sym there.0) ∙ none there.1
+  ]
 
   keys_keep : KeysLead tree (p ++ key k ∷ []) node
   keys_keep sections resolved made =
@@ -311,18 +276,15 @@ module _ (from node : Node) (k : List ℕ) (unmade : spot_is_made from.count fro
       ∙ sym (made_there sections (tree_trie tree) resolved.stands p k) ∙ made))
 
   rows_keep : RowsLead tree (p ++ key k ∷ []) node
-  rows_keep sections resolved q l r same made = go (last_step p q (key k) (key l) r same)
-    where
-      go : EndsAt p (key k) q (key l) r
-          → IfSome ((table_within tree.root).below (q ++ key l ∷ []))
-          (λ o. o.made ≡ false → KeepsRow tree o.section (keys_of q) l node.trail)
-      go (inl one) =
-          absurd (false≢true (sym (path_unmade from tree p stands unmade sections resolved)
-          ∙ ap (λ p. grammar.is_made (located sections) p) one.1 ∙ made))
-      go (inr further) =
-          subst (λ trail. IfSome ((table_within tree.root).below (q ++ key l ∷ []))
-          (λ o. o.made ≡ false → KeepsRow tree o.section (keys_of q) l trail)) (sym trail)
-          (stands.rows sections resolved q l further.0 further.1 made)
+  rows_keep sections resolved q l r same made = elim (last_step p q (key k) (key l) r same) [
+    | inl one ↦
+        absurd (false≢true (sym (path_unmade from tree p stands unmade sections resolved)
+        ∙ ap (λ p. grammar.is_made (located sections) p) one.1 ∙ made))
+    | inr further ↦
+        subst (λ trail. IfSome ((table_within tree.root).below (q ++ key l ∷ []))
+        (λ o. o.made ≡ false → KeepsRow tree o.section (keys_of q) l trail)) (sym trail)
+        (stands.rows sections resolved q l further.0 further.1 made)
+  ]
 
 -- the node of a row of an inline table stands at its key
 module _ (from node : Node) (rs : List Row) (holds : HoldsRows from.spot rs) (simple : are_few_simple 0 rs ≡ true)
@@ -360,7 +322,7 @@ module _ (from : Node) (rs : List Row) (simple : are_few_simple 0 rs ≡ true) (
     (found : IsRowAt rs k r) where
   pub found_plain : is_plain (out-Row r).value 0 ≡ true
   found_plain =
-      plain_at rs simple found.0 r (within_length rs found.0 r found.1)
+      plain_at rs simple found.0 r (slice_get_within rs found.0 r found.1)
       (sym (get_or_from_slice_get rs found.0 r r found.1))
 
   pub found_data : (node : Node) → node_data from ≡ rows_data rs → node_data node ≡ plain_data (out-Row r).value
@@ -373,6 +335,25 @@ module _ (from : Node) (rs : List Row) (simple : are_few_simple 0 rs ≡ true) (
   found_stands node holds is =
       subst (λ k. AtKey from k node) found.2 (row_stands from node rs holds simple found.0 r found.1 is)
 
+-- An iterator gives an entry of its table, and goes on to the next.
+pub record GivesNext (before : Entries) (entry : Bor (List ℕ) × Node) (after : Entries) : Type 0 where
+  pub steps : GivesEntry before (Some entry) after
+  pub goes : MakesProgress (can_next-default Entries (Bor (List ℕ) × Node)) (item_count entries_left) before
+      (Some entry) after
+
+pub gives_next : (before : Entries) (entry : Bor (List ℕ) × Node)
+    → slice_get (entries_in (node_data before.table)) before.at ≡ Some (key_and_data entry)
+    → AtKey before.table entry.0.now entry.1
+    → GivesNext before entry (record { table = before.table; at = before.at + 1 })
+gives_next before entry read stands =
+    let first : entries_left before ≡ key_and_data entry ∷ drop (before.at + 1) (entries_in (node_data before.table)) =
+    drop_next (entries_in (node_data before.table)) before.at (key_and_data entry) read in
+    record {
+      steps = (first, stands, refl);
+      goes = progress entries_left before (record { table = before.table; at = before.at + 1 }) entry
+          (omega (arith, ap length first));
+    }
+
 -- an iterator over such rows
 module _ (before : Entries) (rs : List Row) (here : node_data before.table ≡ rows_data rs)
     (simple : are_few_simple 0 rs ≡ true) where
@@ -381,13 +362,15 @@ module _ (before : Entries) (rs : List Row) (here : node_data before.table ≡ r
 
   pub no_row_left : length rs ≤ before.at → entries_left before ≡ []
   no_row_left past =
-      let long = ap length entries_seen ∙ mapped_length row_pair rs in
-      drop_past (entries_in (node_data before.table)) before.at (omega (arith, long, past))
+      let long = ap length entries_seen ∙ length-map rs row_pair in
+      drop_all before.at (entries_in (node_data before.table)) (omega (arith, long, past))
 
-  pub first_row_left : (r : Row) (k : Bor (List ℕ)) (node : Node) → slice_get rs before.at ≡ Some r → k.now ≡ key_of r
-      → node_data node ≡ plain_data (out-Row r).value
-      → entries_left before ≡ key_and_data (k, node) ∷ drop (before.at + 1) (entries_in (node_data before.table))
-  first_row_left r k node read same is =
-      drop_next (entries_in (node_data before.table)) before.at (key_and_data (k, node))
+  -- the row at its place comes first of what is left, and the iterator goes on
+  pub gives_row : (r : Row) (k : Bor (List ℕ)) (node : Node) → slice_get rs before.at ≡ Some r → k.now ≡ key_of r
+      → node_data node ≡ plain_data (out-Row r).value → AtKey before.table (key_of r) node
+      → GivesNext before (k, node) (record { table = before.table; at = before.at + 1 })
+  gives_row r k node read same is stands =
+      gives_next before (k, node)
       (ap (λ l. slice_get l before.at) entries_seen ∙ read_mapped row_pair rs before.at r read
       ∙ ap₂ (λ (k : List ℕ) d. Some (k, d)) (sym same) (sym is))
+      (subst (λ k. AtKey before.table k node) (sym same) stands)

@@ -1,9 +1,9 @@
 -- What rows made, as the tree has it and as the section list foretells it.
-use Rattle.std.proofs.Common.{◌≡◌, ℕ, Bool, true, false, List, [], ◌∷◌, ◌++◌, Option, Some, None, refl, ap, sym}
+use Rattle.std.proofs.Common.{◌≡◌, ℕ, Bool, false, List, [], ◌∷◌, ◌++◌, Option, Some, None, refl, ap, sym}
 use Rattle.std.proofs.Common.{◌∙◌, subst}
-use Rattle.std.specs.Prelude.{◌||◌, ◌&&◌, if◌then◌else◌, IfSome}
+use Rattle.std.specs.Prelude.{◌||◌, ◌&&◌, IfSome}
 use Rattle.std.specs.List.{list_any, list_all}
-use Rattle.std.proofs.lemmas.Bool.{false≢true}
+use Rattle.std.proofs.lemmas.Bool.{false≢true, or_parts}
 use Rattle.basic_toml_grammar.specs.Sections.{Section}
 use Rattle.basic_toml_grammar.specs.Steps.{Path}
 use Rattle.basic_toml_grammar.specs.IndexedPath.{located_from, located}
@@ -13,12 +13,10 @@ use Rattle.basic_toml_grammar.specs.Entering.{keyed_within, all_keyed_within}
 use Rattle.basic_toml_grammar.specs.Nodes as grammar
 use Rattle.basic_toml_grammar.proofs.Clash.PathsAgree.{append_none}
 use Rattle.basic_toml_tree.specs.declared.node.Node.{Node}
-use Rattle.basic_toml_tree.specs.Origin.{is_made, spot_name, name_of, start_of, last_at, spot_is_borrowed, is_borrowed}
+use Rattle.basic_toml_tree.specs.Origin.{is_made, spot_name, spot_is_borrowed}
 use Rattle.basic_toml_grow.specs.Origins.{Origin}
 use Rattle.basic_toml_grow.specs.Ways.{sections_origins}
 use Rattle.basic_toml_tree.specs.Stands.{spot_origin, tree_origins, IsNodeAt}
-use Rattle.basic_toml_tree.proofs.Nodes.MadeNodes.{ForetoldWhere, made_name_told, made_start_told, made_told}
-use Rattle.basic_toml_tree.proofs.Nodes.MadeNodes.{made_slice_told}
 use Rattle.basic_toml_tree.proofs.Origins.RowsAreNodes.{Same, of_node, of_origin, sections_same}
 
 -- the list's sections, where they stand
@@ -31,10 +29,6 @@ pub located_keyed : (before ss : List Section)
     → list_all (λ l. keyed_within l.section.rows) (located_from before ss) ≡ all_keyed_within ss
 located_keyed before [] = refl
 located_keyed before (s ∷ ss) = ap (λ b. keyed_within s.rows && b) (located_keyed (s ∷ before) ss)
-
-pub no_row_clash : (a b : Bool) → (a || b) ≡ false → a ≡ false
-no_row_clash false b e = refl
-no_row_clash true b e = absurd (cc)
 
 -- a node that headers did not make
 pub record RowTold (node : Node) (found : grammar.Node) : Type 0 where
@@ -72,58 +66,13 @@ row_told sections (r ∷ p) node is not =
     → o ≡ spot_origin node.count node.spot node.start is.stands.comes.section)) here is.stands.comes.own in
     let same = sections_same ls last 0 ls (r ∷ p) not
     (located_any (λ s. rows_clash s.rows) [] sections
-    ∙ no_row_clash (has_row_clash sections) (sections_clash sections) is.resolved.clash)
+    ∙ (or_parts (has_row_clash sections) (sections_clash sections) is.resolved.clash).0)
     (located_keyed [] sections ∙ is.resolved.within) in
     rw not (told_by node is.stands.comes.section (grammar.node_of_sections ls last ls (r ∷ p))
     (sections_origins 0 ls (r ∷ p)) same own)
 
--- what every node tells
-pub some_then : {A : Type 0} (o : Option A) (P Q : A → Type 0) → ((x : A) → P x → Q x) → IfSome o P → IfSome o Q
-some_then None P Q f p = tt
-some_then (Some x) P Q f p = f x p
-
-either_way : (sections : List Section) (p : Path) (node : Node) (says : grammar.Node → Type 0) (b : Bool)
-    → grammar.is_made (located sections) p ≡ b
-    → (grammar.is_made (located sections) p ≡ true → IfSome (grammar.node_at sections p) says)
-    → ((found : grammar.Node) → RowTold node found → says found) → IsNodeAt sections p node
-    → IfSome (grammar.node_at sections p) says
-either_way sections p node says true e made row is = made e
-either_way sections p node says false e made row is =
-    some_then (grammar.node_at sections p) (RowTold node) says row (row_told sections p node is e)
-
-pub name_told : (name : List ℕ) (node : Node) → name ≡ name_of node → (sections : List Section) (p : Path)
-    → ForetoldWhere sections p node (λ found. name ≡ found.type_name)
-unfolding name_of
-name_told name node same sections p is =
-    either_way sections p node (λ found. name ≡ found.type_name) (grammar.is_made (located sections) p) refl
-    (made_name_told name node same sections p is) (λ found told. same ∙ told.name) is
-
-pub slice_told : (slice : Bool) (node : Node) → slice ≡ is_borrowed node → (sections : List Section) (p : Path)
-    → ForetoldWhere sections p node (λ found. slice ≡ found.is_slice)
-slice_told slice node same sections p is =
-    either_way sections p node (λ found. slice ≡ found.is_slice) (grammar.is_made (located sections) p) refl
-    (made_slice_told slice node same sections p is) (λ found told. same ∙ told.slice) is
-
-pub start_told : (start : Option ℕ) (node : Node) → start ≡ start_of node → (sections : List Section) (p : Path)
-    → ForetoldWhere sections p node (λ found. start ≡ found.start)
-unfolding start_of
-start_told start node same sections p is =
-    either_way sections p node (λ found. start ≡ found.start) (grammar.is_made (located sections) p) refl
-    (made_start_told start node same sections p is)
-    (λ found told. same ∙ ap (λ b. if b then last_at node.tree.now else Some node.start) told.made ∙ told.start) is
-
-pub made_answers : (made : Bool) (node : Node) → made ≡ is_made node → (sections : List Section) (p : Path)
-    → ForetoldWhere sections p node (λ _. made ≡ grammar.is_made (located sections) p)
-made_answers made node same sections p is = go (grammar.is_made (located sections) p) refl
-  where
-    any : {A : Type 0} (o : Option A) (P : Type 0) → P → IfSome o (λ _. P)
-    any None P p = tt
-    any (Some x) P p = p
-
-    go : (b : Bool) → grammar.is_made (located sections) p ≡ b
-        → IfSome (grammar.node_at sections p) (λ _. made ≡ grammar.is_made (located sections) p)
-    go true e = any (grammar.node_at sections p) (made ≡ grammar.is_made (located sections) p)
-        (made_told made node same sections p is e ∙ sym e)
-    go false e =
-        some_then (grammar.node_at sections p) (RowTold node) (λ _. made ≡ grammar.is_made (located sections) p)
-        (λ found told. same ∙ told.made ∙ sym e) (row_told sections p node is e)
+-- two facts of what is there
+pub some_both : {A : Type 0} (o : Option A) {P Q R : A → Type 0} → IfSome o P → IfSome o Q → ((x : A) → P x → Q x → R x)
+    → IfSome o R
+some_both None p q f = tt
+some_both (Some x) p q f = f x p q

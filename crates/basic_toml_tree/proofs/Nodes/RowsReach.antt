@@ -1,20 +1,21 @@
 -- Which keys rows lead over: what tells of a path tells of its beginnings, and a row that leads to it goes over them.
 use Rattle.std.proofs.Common.{◌≡◌, ◌⊎◌, inl, inr, ℕ, zero, suc, Bool, true, false, List, [], ◌∷◌, ◌++◌, Option}
-use Rattle.std.proofs.Common.{Some, None, refl, ap, sym, ◌∙◌, subst, slice_get}
+use Rattle.std.proofs.Common.{Some, None, refl, ap, sym, ◌∙◌, subst, slice_get, append_assoc}
 use Rattle.std.specs.Prelude.{◌||◌, ◌&&◌, if◌then◌else◌, IfSome}
 use Rattle.std.specs.Option.{option_or}
-use Rattle.std.proofs.lemmas.Bool.{false≢true, and_parts}
+use Rattle.std.proofs.lemmas.Bool.{false≢true, and_parts, or_parts, cases_Bool}
+use Rattle.std.proofs.lemmas.Option.{IfSome_then}
 use Rattle.basic_toml_grammar.specs.Sections.{KeyTexts, texts, Raw, Elements, no_elements, element, Rows, no_rows}
 use Rattle.basic_toml_grammar.specs.Sections.{Key, row}
 use Rattle.basic_toml_grammar.specs.Steps.{Step, key, number, Path, step_eq, begins, steps_of}
 use Rattle.basic_toml_grammar.specs.IndexedPath.{Located}
 use Rattle.basic_toml_grammar.specs.SectionClash.{row_on_path, row_crossed, any_row_clashes}
 use Rattle.basic_toml_grammar.specs.Entering.{has_key, keyed_within, value_keyed}
-use Rattle.basic_toml_grammar.proofs.Clash.StepTestsDecide.{step_is, step_same}
+use Rattle.basic_toml_grammar.proofs.Clash.StepTestsDecide.{step_is}
 use Rattle.basic_toml_grow.specs.Origins.{Origin, Origins, entry, under, table_origin, along}
 use Rattle.basic_toml_grow.specs.Origins.{row_origins, value_origins, elements_origins, rows_origins}
-use Rattle.basic_toml_tree.proofs.Nodes.RowKeys.{either, or_some}
-use Rattle.basic_toml_tree.proofs.Nodes.RowNodesTold.{some_then}
+use Rattle.basic_toml_tree.proofs.Nodes.RowKeys.{or_some}
+use Rattle.basic_toml_tree.proofs.Origins.RowsAreNodes.{begins_front}
 
 abbrev pub Told : Option Origin → Type 0
 Told o = (x : Origin) × (o ≡ Some x)
@@ -51,19 +52,10 @@ row_front (k ∷ l ∷ ks) d f below s (t ∷ p) r =
 mutual
   value_front : (n at : ℕ) (v : Raw) (p r : Path)
       → IfSome (value_origins n at v (p ++ r)) (λ x. Told (value_origins n at v p))
-  value_front n at (Raw.integer z) [] r = some_told (value_origins n at (Raw.integer z) r) _
-  value_front n at (Raw.float z) [] r = some_told (value_origins n at (Raw.float z) r) _
-  value_front n at (Raw.boolean z) [] r = some_told (value_origins n at (Raw.boolean z) r) _
-  value_front n at (Raw.string z c) [] r = some_told (value_origins n at (Raw.string z c) r) _
-  value_front n at (Raw.array es) [] r = some_told (value_origins n at (Raw.array es) r) _
-  value_front n at (Raw.inline rows) [] r = some_told (value_origins n at (Raw.inline rows) r) _
-  value_front n at (Raw.integer z) (s ∷ p) r = tt
-  value_front n at (Raw.float z) (s ∷ p) r = tt
-  value_front n at (Raw.boolean z) (s ∷ p) r = tt
-  value_front n at (Raw.string z c) (s ∷ p) r = tt
-  value_front n at (Raw.array es) (key k ∷ p) r = tt
   value_front n at (Raw.array es) (number m ∷ p) r = elements_front n es m p r
   value_front n at (Raw.inline rows) (s ∷ p) r = rows_front n rows s p r
+  value_front n at v [] r = some_told (value_origins n at v r) _
+  value_front n at v p r = tt
 
   elements_front : (n : ℕ) (es : Elements) (m : ℕ) (p r : Path)
       → IfSome (under (slice_get (elements_origins n es) m) (p ++ r))
@@ -81,16 +73,12 @@ mutual
       (row_front (texts ks) (table_origin false at n) (value_origins n at v) (λ p r. value_front n at v p r) s p r)
       (rows_front n rows s p r)
 
-pub joined : (p q r : Path) → (p ++ q) ++ r ≡ p ++ (q ++ r)
-joined [] q r = refl
-joined (s ∷ p) q r = ap (λ p. s ∷ p) (joined p q r)
-
 pub rows_told : (n : ℕ) (rows : Rows) (y : Path) (s : Step) (r : Path)
     → IfSome (rows_origins n rows (y ++ s ∷ r)) (λ x. Told (rows_origins n rows (y ++ s ∷ [])))
 rows_told n rows [] s r = rows_front n rows s [] r
 rows_told n rows (t ∷ y) s r =
     subst (λ p. IfSome (rows_origins n rows (t ∷ p)) (λ x. Told (rows_origins n rows (t ∷ y ++ s ∷ []))))
-    (joined y (s ∷ []) r) (rows_front n rows t (y ++ s ∷ []) r)
+    (append_assoc y (s ∷ []) r) (rows_front n rows t (y ++ s ∷ []) r)
 
 -- what is told of a path along a way
 abbrev pub On : Path → Origins → Path → Origin → Type 0
@@ -103,18 +91,11 @@ along_tells [] f p = it (f p) refl
     it None e = tt
     it (Some o) e = (p, refl, e)
 along_tells (s ∷ w) f [] = tt
-along_tells (s ∷ w) f (t ∷ p) = go (step_eq t s) refl (along_tells w f p)
-  where
-    go : (b : Bool) → step_eq t s ≡ b → IfSome (along w f p) (On w f p)
-        → IfSome (if b then along w f p else None) (On (s ∷ w) f (t ∷ p))
-    go true e below =
-        some_then (along w f p) (On w f p) (On (s ∷ w) f (t ∷ p))
-        (λ o at. (at.0, ap (λ t. t ∷ p) (step_is t s e) ∙ ap (λ p. s ∷ p) at.1, at.2)) below
-    go false e below = tt
-
-pub along_there : (w x : Path) (f : Origins) → along w f (w ++ x) ≡ f x
-along_there [] x f = refl
-along_there (s ∷ w) x f = rw step_same (along_there w x f)
+along_tells (s ∷ w) f (t ∷ p) = elim (cases_Bool (step_eq t s)) [
+  | inl e ↦ rw e (IfSome_then (along w f p) (along_tells w f p)
+      (λ o at. (at.0, ap (λ t. t ∷ p) (step_is t s e) ∙ ap (λ p. s ∷ p) at.1, at.2)))
+  | inr e ↦ rw e tt
+]
 
 -- The keys of a row pass by a step after others, or end before it.
 abbrev GoesOver : KeyTexts → Path → Step → Type 0
@@ -155,8 +136,8 @@ row_over k (l ∷ ks) d f (t ∷ y) s r =
     let more = row_origins (l ∷ ks) d f in
     if_so (step_eq t (key k)) (entry d more (y ++ s ∷ r)) (GoesOver (k ∷ l ∷ ks) (t ∷ y) s)
     (λ e. subst (λ o. IfSome o (λ x. GoesOver (k ∷ l ∷ ks) (t ∷ y) s)) (sym (entry_below d more y s r))
-    (some_then (more (y ++ s ∷ r)) (λ x. GoesOver (l ∷ ks) y s) (λ x. GoesOver (k ∷ l ∷ ks) (t ∷ y) s)
-    (λ x over. further k (l ∷ ks) t y s (step_is t (key k) e) over) (row_over l ks d f y s r)))
+    (IfSome_then (more (y ++ s ∷ r)) (row_over l ks d f y s r)
+    (λ x over. further k (l ∷ ks) t y s (step_is t (key k) e) over)))
 
 -- Some row of a section passes by a step; it crosses no header that none of the rows crosses.
 pub record Over (w : Path) (rows : Rows) (y : Path) (s : Step) : Type 0 where
@@ -169,12 +150,6 @@ pub record Over (w : Path) (rows : Rows) (y : Path) (s : Step) : Type 0 where
 abbrev pub GoneOn : Path → Rows → Path → Type 0
 GoneOn w rows y = (y ≡ []) ⊎ ((j : Located) × (begins (w ++ y) j.path ≡ true) × (any_row_clashes w rows j ≡ false))
 
-begins_front : (p r q : Path) → begins (p ++ r) q ≡ true → begins p q ≡ true
-begins_front [] r q e = refl
-begins_front (s ∷ p) r [] e = absurd (false≢true e)
-begins_front (s ∷ p) r (t ∷ q) e =
-    let both = and_parts (step_eq s t) (begins (p ++ r) q) e in rw both.0 (begins_front p r q both.1)
-
 ends_nowhere : (w : Path) (k : Key) (ks : List Key) (at : ℕ) (v : Raw) (rows : Rows) (y : Path)
     → GoneOn w (row (k ∷ ks) at v rows) y → (rest : Path) → y ≡ steps_of (texts (k ∷ ks)) ++ rest → ⊥
 ends_nowhere w k ks at v rows y (inl none) rest is =
@@ -183,9 +158,10 @@ ends_nowhere w k ks at v rows y (inr gone) rest is =
     let steps = steps_of (texts (k ∷ ks)) in
     let on : begins (w ++ steps) gone.0.path ≡ true =
     begins_front (w ++ steps) rest gone.0.path
-    (subst (λ p. begins p gone.0.path ≡ true) (ap (λ y. w ++ y) is ∙ sym (joined w steps rest)) gone.1) in
-    let apart = either (row_on_path w steps gone.0 || row_crossed w steps gone.0) (any_row_clashes w rows gone.0) gone.2 in
-    false≢true (sym (either (row_on_path w steps gone.0) (row_crossed w steps gone.0) apart.0).0 ∙ on)
+    (subst (λ p. begins p gone.0.path ≡ true) (ap (λ y. w ++ y) is ∙ sym (append_assoc w steps rest)) gone.1) in
+    let apart = or_parts (row_on_path w steps gone.0 || row_crossed w steps gone.0) (any_row_clashes w rows gone.0)
+    gone.2 in
+    false≢true (sym (or_parts (row_on_path w steps gone.0) (row_crossed w steps gone.0) apart.0).0 ∙ on)
 
 pub rows_over : (n : ℕ) (w : Path) (rows : Rows) (y : Path) (s : Step) (r : Path) → keyed_within rows ≡ true
     → GoneOn w rows y → IfSome (rows_origins n rows (y ++ s ∷ r)) (λ x. Over w rows y s)
@@ -196,20 +172,17 @@ rows_over n w (row (k ∷ ks) at v rows) y s r keyed gone =
     let f = value_origins n at v in
     let p = y ++ s ∷ r in
     or_some (row_origins (texts (k ∷ ks)) d f p) (rows_origins n rows p) (λ x. Over w (row (k ∷ ks) at v rows) y s)
-    (some_then (row_origins (texts (k ∷ ks)) d f p) (λ x. GoesOver (texts (k ∷ ks)) y s)
-    (λ x. Over w (row (k ∷ ks) at v rows) y s) (λ x over. here over) (row_over k.text (texts ks) d f y s r))
-    (some_then (rows_origins n rows p) (λ x. Over w rows y s) (λ x. Over w (row (k ∷ ks) at v rows) y s)
-    (λ x over. later over)
-    (rows_over n w rows y s r (and_parts (has_key (k ∷ ks) && value_keyed v) (keyed_within rows) keyed).1 (less gone)))
+    (IfSome_then (row_origins (texts (k ∷ ks)) d f p) (row_over k.text (texts ks) d f y s r) (λ x over. here over))
+    (IfSome_then (rows_origins n rows p)
+    (rows_over n w rows y s r (and_parts (has_key (k ∷ ks) && value_keyed v) (keyed_within rows) keyed).1 (less gone))
+    (λ x over. later over))
   where
     parts : (j : Located) → any_row_clashes w (row (k ∷ ks) at v rows) j ≡ false
         → (row_crossed w (steps_of (texts (k ∷ ks))) j ≡ false) × (any_row_clashes w rows j ≡ false)
     parts j none =
-        let apart = either (row_on_path w (steps_of (texts (k ∷ ks))) j || row_crossed w (steps_of (texts (k ∷ ks))) j)
-        (any_row_clashes w rows j) none in (
-          (either (row_on_path w (steps_of (texts (k ∷ ks))) j) (row_crossed w (steps_of (texts (k ∷ ks))) j) apart.0).1,
-          apart.1,
-        )
+        let steps = steps_of (texts (k ∷ ks)) in
+        let apart = or_parts (row_on_path w steps j || row_crossed w steps j) (any_row_clashes w rows j) none in
+        ((or_parts (row_on_path w steps j) (row_crossed w steps j) apart.0).1, apart.1)
 
     here : GoesOver (texts (k ∷ ks)) y s → Over w (row (k ∷ ks) at v rows) y s
     here (inl on) = record { keys = texts (k ∷ ks); more = on.0; is = on.1; crossed = λ j none. (parts j none).0 }

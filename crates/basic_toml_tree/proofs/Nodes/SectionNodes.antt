@@ -39,11 +39,11 @@ use Rattle.basic_toml_tree.specs.declared.spot.Spot.TheVariants as spots
 use Rattle.basic_toml_tree.proofs.ItemData.{child_item}
 use Rattle.basic_toml_tree.proofs.SectionData.{section_rows, section_table_data}
 use Rattle.basic_toml_tree.proofs.Nodes.KeysTold.{key_keeps}
-use Rattle.basic_toml_tree.proofs.Nodes.NodesCome.{read_mapped}
 use Rattle.basic_toml_tree.proofs.Nodes.NodesStand.{key_stands}
 use Rattle.basic_toml_tree.proofs.Nodes.OuterStands.{keeps_below}
 use Rattle.basic_toml_tree.proofs.Nodes.PlainNodes.{value_comes}
 use Rattle.basic_toml_tree.proofs.Nodes.RowNodes.{rows_differ, key_found}
+use Rattle.basic_toml_tree.proofs.Nodes.NodesInOrder.{read_mapped}
 
 -- where a row comes from
 pub section_row_comes : (s : ℕ) (r : Row) (v : PlainValue) (node : Node) → is_plain (out-Row r).value 0 ≡ true
@@ -139,18 +139,7 @@ no_wrapper i table section = go (out-Item i) (shape i (out-Item i) refl)
     go (Item-F.Section z) is =
         let made : roll-Item (Item-F.Section z) ≡ items.Section z = search (rules, the_lemmas) in
         absurd (section z (is ∙ made))
-    go (Item-F.Integer z) is = refl
-    go (Item-F.Float z) is = refl
-    go Item-F.True is = refl
-    go Item-F.False is = refl
-    go (Item-F.String z) is = refl
-    go (Item-F.Escaped z) is = refl
-    go (Item-F.Array z) is = refl
-    go (Item-F.Plain z) is = refl
-    go (Item-F.Rows z) is = refl
-    go (Item-F.Inline z) is = refl
-    go (Item-F.Tables z) is = refl
-    go (Item-F.Sections z) is = refl
+    go x is = refl
 
 -- the rows of a table that is not one of entries
 pub record HasRows (d : Data) : Type 0 where

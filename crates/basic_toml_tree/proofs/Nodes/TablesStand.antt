@@ -29,10 +29,9 @@ use Rattle.basic_toml_tree.specs.declared.node.Node.{Node}
 use Rattle.basic_toml_tree.specs.declared.spot.HeaderTable.{HeaderTable}
 use Rattle.basic_toml_tree.specs.declared.spot.Spot.TheVariants as spots
 use Rattle.basic_toml_tree.proofs.SectionData.{section_table_data}
-use Rattle.basic_toml_tree.proofs.Nodes.KeysLead.{count_beside, keys_beside, rows_beside}
-use Rattle.basic_toml_tree.proofs.Nodes.NodesCome.{read_mapped, table_node_comes}
-use Rattle.basic_toml_tree.proofs.Nodes.NodesInOrder.{sections_elements, tables_elements}
-use Rattle.basic_toml_tree.proofs.Nodes.NodesStand.{kept_beside, no_array_root, stands_on, tells_table}
+use Rattle.basic_toml_tree.proofs.Nodes.NodesCome.{table_node_comes}
+use Rattle.basic_toml_tree.proofs.Nodes.NodesInOrder.{sections_elements, tables_elements, read_mapped}
+use Rattle.basic_toml_tree.proofs.Nodes.NodesStand.{tells_table, beside_stands}
 
 find_number : (k n m : ℕ) (ts : List Trie) (u : Trie) → m ≡ k + n → slice_get ts n ≡ Some u
     → find (number m) (by_numbers k ts) ≡ u
@@ -98,10 +97,14 @@ section_among tables n t read simple =
 
 -- its node
 pub table_stands : (from node : Node) (n : ℕ) (b : Bor Item) (t : HeaderTable) → from.spot ≡ spots.Item b
-    → TableAmong b.now n (table_of t) → IsBeside from (spots.Table t) node → node.start ≡ from.start
+    → (i : Item) → b.now ≡ i → TableAmong i n (table_of t)
+    → IsBeside from (spots.Table t) node → node.start ≡ from.start
     → (slice_get (elements_in (node_data from)) n ≡ Some (node_data node)) × AtNumber from n node
-table_stands from node n b t at among beside start = (read, stands)
+table_stands from node n b t at i is among_i beside start = (read, stands)
   where
+    among : TableAmong b.now n (table_of t)
+    among = subst (λ i. TableAmong i n (table_of t)) (sym is) among_i
+
     read : slice_get (elements_in (node_data from)) n ≡ Some (node_data node)
     read =
         ap (λ spot. slice_get (elements_in (spot_data spot)) n) at ∙ among.is_data
@@ -118,12 +121,6 @@ table_stands from node n b t at among beside start = (read, stands)
         (table_node_comes t node from.start s beside.spot start counted)
 
     stands : AtNumber from n node
-    stands tree p here =
-        let counted : (node.count == 0) ≡ false =
-        ap (λ c. c == 0) beside.count ∙ here.root
-        ∙ no_array_root from tree p here (ap (λ spot. tells_table (spot_trie spot)) at ∙ among.tables) in
-        stands_on from node (number n) beside.tree read (λ own. inr (there, ap wraps_table beside.spot)) (comes counted)
-        tree p here counted (kept_beside from node n tree p beside.outer here)
-        (count_beside from node (spots.Table t) n beside tree p here)
-        (keys_beside from node (spots.Table t) n beside tree p here)
-        (rows_beside from node (spots.Table t) n beside tree p here)
+    stands =
+        beside_stands from node (spots.Table t) n beside (ap (λ spot. tells_table (spot_trie spot)) at ∙ among.tables)
+        read (λ own. inr (there, ap wraps_table beside.spot)) comes

@@ -1,10 +1,11 @@
 -- Sections entered one after another: what headers made in the tree comes from a section whose header leads there.
 use Rattle.std.proofs.Common.{◌≡◌, ℕ, Bool, true, false, List, [], ◌∷◌, ◌++◌, Option, Some, None, length, reverse}
-use Rattle.std.proofs.Common.{refl, ap, sym, ◌∙◌, subst}
+use Rattle.std.proofs.Common.{refl, ap, sym, ◌∙◌, subst, inl, inr}
 use Rattle.std.specs.Prelude.{◌||◌, slice_get, IsSomeAnd}
 use Rattle.std.specs.List.{list_any}
 use Rattle.std.specs.Option.{option_or}
-use Rattle.std.proofs.lemmas.Bool.{false≢true}
+use Rattle.std.proofs.lemmas.Bool.{false≢true, or_cases}
+use Rattle.std.proofs.lemmas.List.Folds.{list_any-append}
 use Rattle.basic_toml_grammar.specs.Sections.{KeyTexts, texts, Section}
 use Rattle.basic_toml_grammar.specs.Steps.{Path, begins}
 use Rattle.basic_toml_grammar.specs.IndexedPath.{Located, located_after, located}
@@ -41,13 +42,11 @@ last_leads ls l n p counted leads =
 
 any_before : (f : Located → Bool) (ls : List Located) (l : Located) → list_any f (ls ++ l ∷ []) ≡ true → f l ≡ false
     → list_any f ls ≡ true
-any_before f [] l some not = absurd (false≢true (sym (ap (λ b. b || false) not) ∙ some))
-any_before f (k ∷ ls) l some not = go (f k) some (any_before f ls l)
-  where
-    go : (b : Bool) → (b || list_any f (ls ++ l ∷ [])) ≡ true
-        → (list_any f (ls ++ l ∷ []) ≡ true → f l ≡ false → list_any f ls ≡ true) → (b || list_any f ls) ≡ true
-    go true some rest = refl
-    go false some rest = rest some not
+any_before f ls l some not =
+    elim (or_cases (list_any f ls) (f l || false) (sym (list_any-append f ls (l ∷ [])) ∙ some)) [
+      | inl before ↦ before
+      | inr last ↦ absurd (false≢true (sym (ap (λ b. b || false) not) ∙ last))
+    ]
 
 -- what was there stays
 stays : (before new after : Option Origin) (P Q : Origin → Type 0) → after ≡ option_or before new

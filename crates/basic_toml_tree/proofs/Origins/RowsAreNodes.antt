@@ -4,23 +4,21 @@ use Rattle.std.proofs.Common.{None, refl, ap, sym, ◌∙◌, length, drop, slic
 use Rattle.std.specs.Prelude.{◌||◌, ◌&&◌, if◌then◌else◌}
 use Rattle.std.specs.List.{list_any, list_all}
 use Rattle.std.specs.Option.{option_or}
-use Rattle.std.proofs.lemmas.Bool.{false≢true, and_parts}
-use Rattle.basic_toml_grammar.specs.Sections.{KeyTexts, texts, Raw, Elements, no_elements, element, Rows, no_rows}
-use Rattle.basic_toml_grammar.specs.Sections.{row}
+use Rattle.std.proofs.lemmas.Bool.{false≢true, and_parts, or_parts, cases_Bool, false_from_ne_true, or_right, or_left}
+use Rattle.basic_toml_grammar.specs.Sections.{KeyTexts, texts, Raw, Elements, no_elements, element, Rows, no_rows, row}
 use Rattle.basic_toml_grammar.specs.Steps.{Step, key, number, Path, step_eq, begins, overlap, steps_of}
 use Rattle.basic_toml_grammar.specs.RowClash.{any_overlaps, rows_clash, value_clashes, elements_clash}
 use Rattle.basic_toml_grammar.specs.IndexedPath.{Located}
 use Rattle.basic_toml_grammar.specs.Entering.{has_key, keyed_within, value_keyed, elements_keyed}
 use Rattle.basic_toml_grammar.specs.NamedClash.{first_key}
-use Rattle.basic_toml_grammar.specs.Nodes.{Node, front, dotted_node, holder_in, node_in, node_among}
-use Rattle.basic_toml_grammar.specs.Nodes.{node_by}
+use Rattle.basic_toml_grammar.specs.Nodes.{Node, front, dotted_node, holder_in, node_in, node_among, node_by}
 use Rattle.basic_toml_grammar.specs.Nodes.{holder, node_of_rows, node_of_sections}
 use Rattle.basic_toml_grammar.proofs.Clash.ClashesAgree.{turn_eq}
 use Rattle.basic_toml_grammar.proofs.Clash.StepTestsDecide.{step_is, step_same}
-use Rattle.basic_toml_grow.specs.Origins.{Origin, Origins, under, table_origin}
-use Rattle.basic_toml_grow.specs.Origins.{along}
+use Rattle.basic_toml_grow.specs.Origins.{Origin, Origins, under, table_origin, along}
 use Rattle.basic_toml_grow.specs.Origins.{row_origins, value_origins, elements_origins, rows_origins}
 use Rattle.basic_toml_grow.specs.Ways.{sections_origins}
+use Rattle.basic_toml_grow.proofs.Origins.OriginsSeen.{or_none}
 
 -- what both tell
 pub record Told : Type 0 where
@@ -38,37 +36,25 @@ of_origin o = record { made = o.made; name = o.name; start = Some o.start; slice
 abbrev pub Same : Option Node → Option Origin → Type 0
 Same n o = option_map of_node n ≡ option_map of_origin o
 
-either : (a b : Bool) → (a || b) ≡ false → (a ≡ false) × (b ≡ false)
-either false b e = (refl, e)
-either true b e = absurd (cc)
-
 -- a row, by how its keys begin a path
 abbrev by_keys : Path → Origin → Origins → Path → Option Origin
 by_keys steps o f p =
     if begins steps p then f (drop (length steps) p) else if begins p steps then Some o else None
 
-one_key : (k : List ℕ) (o : Origin) (f : Origins) (r : Step) (q : Path) (b : Bool) → step_eq r (key k) ≡ b
-    → row_origins (k ∷ []) o f (r ∷ q) ≡ by_keys (steps_of (k ∷ [])) o f (r ∷ q)
-one_key k o f r q true e = rw (turn_eq (key k) r, e) refl
-one_key k o f r q false e = rw (turn_eq (key k) r, e) refl
-
-first_of : (k l : List ℕ) (ls : KeyTexts) (o : Origin) (f : Origins) (r : Step) (b : Bool) → step_eq r (key k) ≡ b
-    → row_origins (k ∷ l ∷ ls) o f (r ∷ []) ≡ by_keys (steps_of (k ∷ l ∷ ls)) o f (r ∷ [])
-first_of k l ls o f r true e = rw (turn_eq (key k) r, e) refl
-first_of k l ls o f r false e = rw (turn_eq (key k) r, e) refl
-
-key_on : (k l : List ℕ) (ls : KeyTexts) (o : Origin) (f : Origins) (r t : Step) (p : Path) (b : Bool)
-    → step_eq r (key k) ≡ b → row_origins (l ∷ ls) o f (t ∷ p) ≡ by_keys (steps_of (l ∷ ls)) o f (t ∷ p)
-    → row_origins (k ∷ l ∷ ls) o f (r ∷ t ∷ p) ≡ by_keys (steps_of (k ∷ l ∷ ls)) o f (r ∷ t ∷ p)
-key_on k l ls o f r t p true e ih = rw (turn_eq (key k) r, e) ih
-key_on k l ls o f r t p false e ih = rw (turn_eq (key k) r, e) refl
-
 row_begins : (k : List ℕ) (ks : KeyTexts) (o : Origin) (f : Origins) (r : Step) (q : Path)
     → row_origins (k ∷ ks) o f (r ∷ q) ≡ by_keys (steps_of (k ∷ ks)) o f (r ∷ q)
-row_begins k [] o f r q = one_key k o f r q (step_eq r (key k)) refl
-row_begins k (l ∷ ls) o f r [] = first_of k l ls o f r (step_eq r (key k)) refl
-row_begins k (l ∷ ls) o f r (t ∷ p) =
-    key_on k l ls o f r t p (step_eq r (key k)) refl (row_begins l ls o f t p)
+row_begins k [] o f r q = elim (cases_Bool (step_eq r (key k))) [
+  | inl e ↦ rw (turn_eq (key k) r, e) refl
+  | inr e ↦ rw (turn_eq (key k) r, e) refl
+]
+row_begins k (l ∷ ls) o f r [] = elim (cases_Bool (step_eq r (key k))) [
+  | inl e ↦ rw (turn_eq (key k) r, e) refl
+  | inr e ↦ rw (turn_eq (key k) r, e) refl
+]
+row_begins k (l ∷ ls) o f r (t ∷ p) = elim (cases_Bool (step_eq r (key k))) [
+  | inl e ↦ rw (turn_eq (key k) r, e) (row_begins l ls o f t p)
+  | inr e ↦ rw (turn_eq (key k) r, e) refl
+]
 
 keys_begin : (ks : KeyTexts) (o : Origin) (f : Origins) (r : Step) (q : Path)
     → row_origins ks o f (r ∷ q) ≡ by_keys (steps_of ks) o f (r ∷ q)
@@ -78,11 +64,7 @@ keys_begin (k ∷ ks) o f r q = row_begins k ks o f r q
 -- two paths that begin a third overlap, and so do two of which one goes on from a third that the other begins
 pub both_begin : (p q x : Path) → begins p x ≡ true → begins q x ≡ true → overlap p q ≡ true
 both_begin [] q x a b = refl
-both_begin (s ∷ p) [] x a b = or_true (begins (s ∷ p) [])
-  where
-    or_true : (b : Bool) → (b || true) ≡ true
-    or_true true = refl
-    or_true false = refl
+both_begin (s ∷ p) [] x a b = or_right (begins (s ∷ p) []) true refl
 both_begin (s ∷ p) (t ∷ q) [] a b = absurd (false≢true a)
 both_begin (s ∷ p) (t ∷ q) (u ∷ x) a b =
     let left = and_parts (step_eq s u) (begins p x) a in
@@ -104,38 +86,32 @@ goes_on (s ∷ p) (t ∷ x) (u ∷ q) a b =
     let first : step_eq s u ≡ true = ap (λ s. step_eq s u) (step_is s t left.0) ∙ right.0 in
     rw first (goes_on p x q left.1 right.1)
 
+-- what the one begins, the other does not, where they do not overlap
+pub neither_begins : (p q x : Path) → begins p x ≡ true → overlap p q ≡ false
+    → (begins q x ≡ false) × (begins x q ≡ false)
+neither_begins p q x here apart = (
+  false_from_ne_true (begins q x) (λ e. false≢true (sym apart ∙ both_begin p q x here e)),
+  false_from_ne_true (begins x q)
+      (λ e. false≢true (sym apart ∙ or_left (begins p q) (begins q p) (goes_on p x q here e))),
+)
+
 -- below the value of a row no later row brings anything
 none_later : (s : ℕ) (steps : Path) (rows : Rows) (r : Step) (q : Path) → begins steps (r ∷ q) ≡ true
     → any_overlaps steps rows ≡ false → rows_origins s rows (r ∷ q) ≡ None
 none_later s steps no_rows r q here apart = refl
 none_later s steps (row ks at v rows) r q here apart =
-    let both = either (overlap steps (steps_of (texts ks))) (any_overlaps steps rows) apart in
-    ap (λ o. option_or o (rows_origins s rows (r ∷ q)))
-    (keys_begin (texts ks) (table_origin false at s) (value_origins s at v) r q
-    ∙ go (begins (steps_of (texts ks)) (r ∷ q)) (begins (r ∷ q) (steps_of (texts ks))) refl refl both.0)
-    ∙ none_later s steps rows r q here both.1
-  where
-    go : (a b : Bool) → begins (steps_of (texts ks)) (r ∷ q) ≡ a → begins (r ∷ q) (steps_of (texts ks)) ≡ b
-        → overlap steps (steps_of (texts ks)) ≡ false
-        → (if a then value_origins s at v (drop (length (steps_of (texts ks))) (r ∷ q))
-        else if b then Some (table_origin false at s) else None) ≡ None
-    go true b x y apart =
-        absurd (false≢true (sym apart ∙ both_begin steps (steps_of (texts ks)) (r ∷ q) here x))
-    go false true x y apart =
-        absurd (false≢true (sym apart ∙ ap (λ b. b || begins (steps_of (texts ks)) steps)
-        (goes_on steps (r ∷ q) (steps_of (texts ks)) here y)))
-    go false false x y apart = refl
-
-option_none : (o : Option Origin) → option_or o None ≡ o
-option_none None = refl
-option_none (Some o) = refl
+    let both = or_parts (overlap steps (steps_of (texts ks))) (any_overlaps steps rows) apart in
+    let other = neither_begins steps (steps_of (texts ks)) (r ∷ q) here both.0 in
+    let none : row_origins (texts ks) (table_origin false at s) (value_origins s at v) (r ∷ q) ≡ None =
+    keys_begin (texts ks) (table_origin false at s) (value_origins s at v) r q ∙ rw (other.0, other.1) refl in
+    ap (λ o. option_or o (rows_origins s rows (r ∷ q))) none ∙ none_later s steps rows r q here both.1
 
 -- one of three: below the value, a table on the way to it, or in a later row
 chosen : (a b : Bool) (m n : Option Node) (o p : Option Origin) (d : Node) (e : Origin)
     → Same m o → Same (Some d) (Some e) → Same n p → (a ≡ true → p ≡ None)
     → Same (if a then m else if b then Some d else n) (option_or (if a then o else if b then Some e else None) p)
 chosen true b m n o p d e value table later none = value ∙ ap (option_map of_origin)
-    (sym (ap (option_or o) (none refl) ∙ option_none o))
+    (sym (ap (option_or o) (none refl) ∙ or_none o))
 chosen false true m n o p d e value table later none = table
 chosen false false m n o p d e value table later none = later
 
@@ -152,48 +128,24 @@ no_numbers s (row (k ∷ l ∷ ks) at v rows) n p keyed =
 mutual
   value_same : (keys : KeyTexts) (outer : Option ℕ) (s at : ℕ) (v : Raw) (p : Path) → value_clashes v ≡ false
       → value_keyed v ≡ true → Same (node_in keys outer at v p) (value_origins s at v p)
-  value_same keys outer s at (Raw.integer z) [] apart keyed = refl
-  value_same keys outer s at (Raw.float z) [] apart keyed = refl
-  value_same keys outer s at (Raw.boolean z) [] apart keyed = refl
-  value_same keys outer s at (Raw.string z c) [] apart keyed = refl
-  value_same keys outer s at (Raw.array es) [] apart keyed = refl
-  value_same keys outer s at (Raw.inline rows) [] apart keyed = refl
-  value_same keys outer s at (Raw.integer z) (r ∷ p) apart keyed = other r
-    where
-      other : (r : Step) → Same (node_in keys outer at (Raw.integer z) (r ∷ p)) None
-      other (key k) = refl
-      other (number n) = refl
-  value_same keys outer s at (Raw.float z) (r ∷ p) apart keyed = other r
-    where
-      other : (r : Step) → Same (node_in keys outer at (Raw.float z) (r ∷ p)) None
-      other (key k) = refl
-      other (number n) = refl
-  value_same keys outer s at (Raw.boolean z) (r ∷ p) apart keyed = other r
-    where
-      other : (r : Step) → Same (node_in keys outer at (Raw.boolean z) (r ∷ p)) None
-      other (key k) = refl
-      other (number n) = refl
-  value_same keys outer s at (Raw.string z c) (r ∷ p) apart keyed = other r
-    where
-      other : (r : Step) → Same (node_in keys outer at (Raw.string z c) (r ∷ p)) None
-      other (key k) = refl
-      other (number n) = refl
-  value_same keys outer s at (Raw.array es) (key k ∷ p) apart keyed = refl
   value_same keys outer s at (Raw.array es) (number n ∷ p) apart keyed = among_same keys outer s es n p apart keyed
   value_same keys outer s at (Raw.inline rows) (number n ∷ p) apart keyed =
       sym (ap (option_map of_origin) (no_numbers s rows n p keyed))
   value_same keys outer s at (Raw.inline rows) (key k ∷ p) apart keyed =
       by_same keys (Some at) s rows rows (key k) p apart keyed
+  value_same keys outer s at v [] apart keyed = refl
+  value_same keys outer s at v (key k ∷ p) apart keyed = refl
+  value_same keys outer s at v p apart keyed = refl
 
   among_same : (keys : KeyTexts) (outer : Option ℕ) (s : ℕ) (es : Elements) (n : ℕ) (p : Path)
       → elements_clash es ≡ false → elements_keyed es ≡ true
       → Same (node_among keys outer es n p) (under (slice_get (elements_origins s es) n) p)
   among_same keys outer s no_elements n p apart keyed = refl
   among_same keys outer s (element at v es) zero p apart keyed =
-      value_same keys outer s at v p (either (value_clashes v) (elements_clash es) apart).0
+      value_same keys outer s at v p (or_parts (value_clashes v) (elements_clash es) apart).0
       (and_parts (value_keyed v) (elements_keyed es) keyed).0
   among_same keys outer s (element at v es) (suc n) p apart keyed =
-      among_same keys outer s es n p (either (value_clashes v) (elements_clash es) apart).1
+      among_same keys outer s es n p (or_parts (value_clashes v) (elements_clash es) apart).1
       (and_parts (value_keyed v) (elements_keyed es) keyed).1
 
   by_same : (keys : KeyTexts) (outer : Option ℕ) (s : ℕ) (all rows : Rows) (r : Step) (q : Path)
@@ -204,8 +156,8 @@ mutual
       let steps = steps_of (texts ks) in
       let keys_in = and_parts (has_key ks && value_keyed v) (keyed_within rows) keyed in
       let value_in = and_parts (has_key ks) (value_keyed v) keys_in.0 in
-      let split = either (any_overlaps steps rows || value_clashes v) (rows_clash rows) apart in
-      let first = either (any_overlaps steps rows) (value_clashes v) split.0 in
+      let split = or_parts (any_overlaps steps rows || value_clashes v) (rows_clash rows) apart in
+      let first = or_parts (any_overlaps steps rows) (value_clashes v) split.0 in
       chosen (begins steps (r ∷ q)) (begins (r ∷ q) steps)
       (node_in keys (holder_in outer all (front steps)) at v (drop (length steps) (r ∷ q)))
       (node_by keys outer all rows (r ∷ q)) (value_origins s at v (drop (length steps) (r ∷ q)))
@@ -217,6 +169,12 @@ mutual
       ∙ ap (λ o. option_map of_origin (option_or o (rows_origins s rows (r ∷ q))))
       (sym (keys_begin (texts ks) (table_origin false at s) (value_origins s at v) r q))
 
+pub begins_front : (p r q : Path) → begins (p ++ r) q ≡ true → begins p q ≡ true
+begins_front [] r q e = refl
+begins_front (s ∷ p) r [] e = absurd (false≢true e)
+begins_front (s ∷ p) r (t ∷ q) e =
+    let both = and_parts (step_eq s t) (begins (p ++ r) q) e in rw both.0 (begins_front p r q both.1)
+
 -- a path that goes on from another one
 pub begins_on : (w steps x : Path) → begins (w ++ steps) (w ++ x) ≡ begins steps x
 begins_on [] steps x = refl
@@ -226,7 +184,7 @@ drop_on : (w steps x : Path) → drop (length (w ++ steps)) (w ++ x) ≡ drop (l
 drop_on [] steps x = refl
 drop_on (s ∷ w) steps x = drop_on w steps x
 
-along_on : (w x : Path) (f : Origins) → along w f (w ++ x) ≡ f x
+pub along_on : (w x : Path) (f : Origins) → along w f (w ++ x) ≡ f x
 along_on [] x f = refl
 along_on (s ∷ w) x f = rw step_same (along_on w x f)
 
@@ -240,8 +198,8 @@ module _ (ls : List Located) (last : Option ℕ) (l : Located) (n : ℕ) where
       let p = l.path ++ r ∷ q in
       let path = l.path ++ steps in
       let key_path = texts l.section.header ++ first_key ks in
-      let split = either (any_overlaps steps rows || value_clashes v) (rows_clash rows) apart in
-      let first = either (any_overlaps steps rows) (value_clashes v) split.0 in
+      let split = or_parts (any_overlaps steps rows || value_clashes v) (rows_clash rows) apart in
+      let first = or_parts (any_overlaps steps rows) (value_clashes v) split.0 in
       let keys_in = and_parts (has_key ks && value_keyed v) (keyed_within rows) keyed in
       let value_in = and_parts (has_key ks) (value_keyed v) keys_in.0 in
       let dropped = drop_on l.path steps (r ∷ q) in
@@ -267,37 +225,25 @@ module _ (ls : List Located) (last : Option ℕ) (l : Located) (n : ℕ) where
 
   -- and elsewhere
   apart_before : (w steps p : Path) → begins w p ≡ false → begins (w ++ steps) p ≡ false
-  apart_before [] steps p not = absurd (false≢true (sym not))
-  apart_before (s ∷ w) steps [] not = refl
-  apart_before (s ∷ w) steps (t ∷ p) not = go (step_eq s t) not (λ e. apart_before w steps p e)
-    where
-      go : (b : Bool) → (b && begins w p) ≡ false → (begins w p ≡ false → begins (w ++ steps) p ≡ false)
-          → (b && begins (w ++ steps) p) ≡ false
-      go true not ih = ih not
-      go false not ih = refl
+  apart_before w steps p not =
+      false_from_ne_true (begins (w ++ steps) p) (λ e. false≢true (sym not ∙ begins_front w steps p e))
 
   apart_after : (w steps p : Path) → begins w p ≡ false → begins p w ≡ false → begins p (w ++ steps) ≡ false
   apart_after [] steps p not back = absurd (false≢true (sym not))
   apart_after (s ∷ w) steps [] not back = absurd (false≢true (sym back))
-  apart_after (s ∷ w) steps (t ∷ p) not back =
-      go (step_eq t s) refl (λ a b. apart_after w steps p a b)
-    where
-      go : (b : Bool) → step_eq t s ≡ b
-          → (begins w p ≡ false → begins p w ≡ false → begins p (w ++ steps) ≡ false)
-          → (step_eq t s && begins p (w ++ steps)) ≡ false
-      go true e ih = rw e (ih (sym (ap (λ b. b && begins w p) (turn_eq s t ∙ e)) ∙ not)
-          (sym (ap (λ b. b && begins p w) e) ∙ back))
-      go false e ih = rw e refl
+  apart_after (s ∷ w) steps (t ∷ p) not back = elim (cases_Bool (step_eq t s)) [
+    | inl e ↦ rw e (apart_after w steps p (sym (ap (λ b. b && begins w p) (turn_eq s t ∙ e)) ∙ not)
+        (sym (ap (λ b. b && begins p w) e) ∙ back))
+    | inr e ↦ rw e refl
+  ]
 
   along_apart : (w p : Path) (f : Origins) → begins w p ≡ false → along w f p ≡ None
   along_apart [] p f not = absurd (false≢true (sym not))
   along_apart (s ∷ w) [] f not = refl
-  along_apart (s ∷ w) (t ∷ p) f not = go (step_eq t s) refl (λ e. along_apart w p f e)
-    where
-      go : (b : Bool) → step_eq t s ≡ b → (begins w p ≡ false → along w f p ≡ None)
-          → (if step_eq t s then along w f p else None) ≡ None
-      go true e ih = rw e (ih (sym (ap (λ b. b && begins w p) (turn_eq s t ∙ e)) ∙ not))
-      go false e ih = rw e refl
+  along_apart (s ∷ w) (t ∷ p) f not = elim (cases_Bool (step_eq t s)) [
+    | inl e ↦ rw e (along_apart w p f (sym (ap (λ b. b && begins w p) (turn_eq s t ∙ e)) ∙ not))
+    | inr e ↦ rw e refl
+  ]
 
   pub rows_apart : (rows : Rows) (p : Path) → begins l.path p ≡ false → begins p l.path ≡ false
       → node_of_rows ls last l rows p ≡ None
@@ -316,34 +262,27 @@ module _ (ls : List Located) (last : Option ℕ) (l : Located) (n : ℕ) where
   goes_from [] [] back = absurd (false≢true (sym back))
   goes_from [] (r ∷ q) back = inl (r, q, refl)
   goes_from (s ∷ w) [] back = inr refl
-  goes_from (s ∷ w) (t ∷ p) back = go (step_eq t s) refl (λ b. goes_from w p b)
-    where
-      go : (b : Bool) → step_eq t s ≡ b
-          → (begins p w ≡ false → ((r : Step) × (q : Path) × (p ≡ w ++ r ∷ q)) ⊎ (begins w p ≡ false))
-          → ((r : Step) × (q : Path) × (t ∷ p ≡ s ∷ w ++ r ∷ q)) ⊎ ((step_eq s t && begins w p) ≡ false)
-      go false e ih = inr (rw (turn_eq s t, e) refl)
-      go true e ih = more (ih (sym (ap (λ b. b && begins p w) e) ∙ back))
-        where
-          more : ((r : Step) × (q : Path) × (p ≡ w ++ r ∷ q)) ⊎ (begins w p ≡ false)
-              → ((r : Step) × (q : Path) × (t ∷ p ≡ s ∷ w ++ r ∷ q)) ⊎ ((step_eq s t && begins w p) ≡ false)
-          more (inl x) = inl (x.0, x.1, ap (λ t. t ∷ p) (step_is t s e) ∙ ap (λ p. s ∷ p) x.2)
-          more (inr other) = inr (ap (λ b. step_eq s t && b) other ∙ and_none (step_eq s t))
+  goes_from (s ∷ w) (t ∷ p) back = elim (cases_Bool (step_eq t s)) [
+    | inl e ↦ elim (goes_from w p (sym (ap (λ b. b && begins p w) e) ∙ back)) [
+      | inl x ↦ inl (x.0, x.1, ap (λ t. t ∷ p) (step_is t s e) ∙ ap (λ p. s ∷ p) x.2)
+      | inr other ↦ inr (ap (λ b. step_eq s t && b) other ∙ and_none (step_eq s t))
+    ]
+    | inr e ↦ inr (rw (turn_eq s t, e) refl)
+  ]
 
   pub section_same : (p : Path) → begins p l.path ≡ false → rows_clash l.section.rows ≡ false
       → keyed_within l.section.rows ≡ true
       → Same (node_of_rows ls last l l.section.rows p) (along l.path (rows_origins n l.section.rows) p)
-  section_same p back apart keyed = go (goes_from l.path p back)
-    where
-      go : ((r : Step) × (q : Path) × (p ≡ l.path ++ r ∷ q)) ⊎ (begins l.path p ≡ false)
-          → Same (node_of_rows ls last l l.section.rows p) (along l.path (rows_origins n l.section.rows) p)
-      go (inl x) =
-          ap (λ p. option_map of_node (node_of_rows ls last l l.section.rows p)) x.2
-          ∙ rows_same l.section.rows x.0 x.1 apart keyed
-          ∙ ap (option_map of_origin) (sym (ap (along l.path (rows_origins n l.section.rows)) x.2
-          ∙ along_on l.path (x.0 ∷ x.1) (rows_origins n l.section.rows)))
-      go (inr not) =
-          ap (option_map of_node) (rows_apart l.section.rows p not back)
-          ∙ ap (option_map of_origin) (sym (along_apart l.path p (rows_origins n l.section.rows) not))
+  section_same p back apart keyed = elim (goes_from l.path p back) [
+    | inl x ↦
+        ap (λ p. option_map of_node (node_of_rows ls last l l.section.rows p)) x.2
+        ∙ rows_same l.section.rows x.0 x.1 apart keyed
+        ∙ ap (option_map of_origin) (sym (ap (along l.path (rows_origins n l.section.rows)) x.2
+        ∙ along_on l.path (x.0 ∷ x.1) (rows_origins n l.section.rows)))
+    | inr not ↦
+        ap (option_map of_node) (rows_apart l.section.rows p not back)
+        ∙ ap (option_map of_origin) (sym (along_apart l.path p (rows_origins n l.section.rows) not))
+  ]
 
 or_same : (m n : Option Node) (o p : Option Origin) → Same m o → Same n p → Same (option_or m n) (option_or o p)
 or_same None n None p first later = later
@@ -357,8 +296,8 @@ pub sections_same : (ls : List Located) (last : Option ℕ) (n : ℕ) (later : L
     → Same (node_of_sections ls last later p) (sections_origins n later p)
 sections_same ls last n [] p back apart keyed = refl
 sections_same ls last n (l ∷ later) p back apart keyed =
-    let b = either (begins p l.path) (list_any (λ l. begins p l.path) later) back in
-    let a = either (rows_clash l.section.rows) (list_any (λ l. rows_clash l.section.rows) later) apart in
+    let b = or_parts (begins p l.path) (list_any (λ l. begins p l.path) later) back in
+    let a = or_parts (rows_clash l.section.rows) (list_any (λ l. rows_clash l.section.rows) later) apart in
     let k = and_parts (keyed_within l.section.rows) (list_all (λ l. keyed_within l.section.rows) later) keyed in
     or_same (node_of_rows ls last l l.section.rows p) (node_of_sections ls last later p)
     (along l.path (rows_origins n l.section.rows) p) (sections_origins (suc n) later p)

@@ -1,10 +1,11 @@
 -- Sections entered one after another: what the rows of all of them bring into the tree.
-use Rattle.std.proofs.Common.{◌≡◌, ℕ, suc, ◌+◌, Bool, true, false, List, [], ◌∷◌, ◌++◌, Option, Some, None}
-use Rattle.std.proofs.Common.{refl, ap}
+use Rattle.std.proofs.Common.{◌≡◌, ℕ, suc, ◌+◌, Bool, true, false, List, [], ◌∷◌, ◌++◌, Option, Some, None, refl, ap}
 use Rattle.std.proofs.Common.{sym, ◌∙◌, length, reverse, arith}
 use Rattle.std.specs.Prelude.{◌||◌}
 use Rattle.std.specs.List.{list_any}
 use Rattle.std.specs.Option.{option_or}
+use Rattle.std.proofs.lemmas.Bool.{or_parts}
+use Rattle.std.proofs.lemmas.List.Folds.{list_any-append}
 use Rattle.basic_toml_grammar.specs.Sections.{KeyTexts, texts, Section}
 use Rattle.basic_toml_grammar.specs.Steps.{Path, begins}
 use Rattle.basic_toml_grammar.specs.IndexedPath.{Located, located_after, located_from, located}
@@ -14,42 +15,29 @@ use Rattle.basic_toml_grammar.proofs.Tries.StepsArePaths.{at_section}
 use Rattle.basic_toml_tree.specs.FirstStop.{Stands}
 use Rattle.basic_toml_grow.specs.Origins.{Origin, Origins, no_origins, along, rows_origins}
 use Rattle.basic_toml_grow.specs.Ways.{way, GrowsAlong, sections_origins}
+use Rattle.basic_toml_grow.proofs.Origins.OriginsSeen.{or_none}
 use Rattle.basic_toml_tree.proofs.Origins.WaysAreLocated.{way_is}
-
--- at a path that no header names or passes through
-abbrev on_the_way : List Located → Path → Bool
-on_the_way ls p = list_any (λ l. begins p l.path) ls
 
 -- what is known of the origins in a tree after some sections
 abbrev pub Brought : List Section → Origins → Type 0
 Brought earlier origins = (p : Path) → list_any (λ l. begins p l.path) (located earlier) ≡ false
     → origins p ≡ sections_origins 0 (located earlier) p
 
-either : (a b : Bool) → (a || b) ≡ false → (a ≡ false) × (b ≡ false)
-either false b e = (refl, e)
-either true b e = absurd (cc)
-
 not_before : (f : Located → Bool) (ls : List Located) (l : Located) → list_any f (ls ++ l ∷ []) ≡ false
     → (list_any f ls ≡ false) × (f l ≡ false)
-not_before f [] l none = (refl, (either (f l) false none).0)
-not_before f (k ∷ ls) l none =
-    let both = either (f k) (list_any f (ls ++ l ∷ [])) none in
-    let rest = not_before f ls l both.1 in
-    (ap (λ b. b || list_any f ls) both.0 ∙ rest.0, rest.1)
+not_before f ls l none =
+    let both = or_parts (list_any f ls) (f l || false) (sym (list_any-append f ls (l ∷ [])) ∙ none) in
+    (both.0, (or_parts (f l) false both.1).0)
 
 assoc : (a b c : Option Origin) → option_or (option_or a b) c ≡ option_or a (option_or b c)
 assoc None b c = refl
 assoc (Some o) b c = refl
 
-one_none : (a : Option Origin) → option_or a None ≡ a
-one_none None = refl
-one_none (Some o) = refl
-
 last_section : (n : ℕ) (ls : List Located) (l : Located) (p : Path)
     → sections_origins n (ls ++ l ∷ []) p
     ≡ option_or (sections_origins n ls p) (along l.path (rows_origins (n + length ls) l.section.rows) p)
 last_section n [] l p =
-    one_none (along l.path (rows_origins n l.section.rows) p)
+    or_none (along l.path (rows_origins n l.section.rows) p)
     ∙ ap (λ m. along l.path (rows_origins m l.section.rows) p) same
   where
     same : n ≡ n + 0

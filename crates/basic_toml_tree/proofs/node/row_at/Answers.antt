@@ -1,15 +1,18 @@
-use Rattle.std.proofs.Common.{ap, sym, ◌∙◌, map}
+use Rattle.std.proofs.Common.{ap, sym, ◌∙◌, map, length, refl}
 use Rattle.std.specs.Str.{bytes_eq}
 use Rattle.std.proofs.lemmas.List.{take_all}
 use Rattle.std.proofs.lemmas.Slice.Eq.{bytes_eq-Decides}
+use Rattle.std.proofs.lemmas.Option.{slice_get_read}
 use Rattle.basic_toml_index.specs.Keys.{is_among}
 use Rattle.basic_toml_plain.specs.Plain.{key_of}
-use Rattle.basic_toml_tree.proofs.Nodes.RowNodes.{row_read, none_passed}
+use Rattle.basic_toml_tree.proofs.Nodes.RowNodes.{none_passed}
 use Rattle.basic_toml_tree.proofs.node.row_at.Goals as goal
 
 pub returns-then-eq : goal.returns-then-eq
 returns-then-eq c =
-    let read = row_read c.args.rows.now c.loop-row.row-index c.row-item.result c.loop-row-test.true c.row-item.is in
+    let rows = c.args.rows.now in
+    let read = slice_get_read rows (length rows) c.loop-row.row-index c.row-item.result refl c.loop-row-test.true
+    c.row-item.is in
     let same = (bytes_eq-Decides c.as_str.result.now c.args.key.now).0 (sym c.eq.ensures ∙ c.if-eq.true) in
     (c.loop-row.row-index, read, sym c.as_str.ensures.value ∙ same)
 

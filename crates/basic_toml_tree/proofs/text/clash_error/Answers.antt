@@ -1,7 +1,8 @@
-use Rattle.std.proofs.Common.{ap, sym, subst, ℕ, List, Some, None}
+use Rattle.std.proofs.Common.{ap, sym, subst, ℕ, List, Some, None, inl}
 use Rattle.basic_toml_read.specs.SectionsRead.{IsPlaceIn, IsStop}
 use Rattle.basic_toml_read.specs.declared.reader.Place.{Place}
-use Rattle.basic_toml_tree.proofs.TreeOfText.{put_there, clash_told, rest_stops}
+use Rattle.basic_toml_read.proofs.ListIsAnswered.{stop_answered}
+use Rattle.basic_toml_tree.proofs.TreeOfText.{put_there, clash_told}
 use Rattle.basic_toml_tree.proofs.text.clash_error.Goals as goal
 
 pub crossed_in_rest-requires : goal.crossed_in_rest-requires
@@ -40,7 +41,6 @@ pub returns-in-Err : goal.returns-in-Err
 returns-in-Err c = λ list behind.
     let reader = c.at-reader.result in
     let text = ap (λ t. t.now) c.at-reader.ensures.text in
-    rest_stops c.args.text.now c.in-Err.stop c.explain.result c.utf8.text
+    inl (stop_answered c.args.text.now c.in-Err.stop c.explain.result c.utf8.text
     (subst (λ (b : List ℕ). IsStop b c.in-Err.stop) text (c.in-Err.ensures list
-    (put_there c.args.text.now reader c.args.place text c.at-reader.ensures.place list behind))) c.explain.ensures list
-    c.args.section.now c.args.clash
+    (put_there c.args.text.now reader c.args.place text c.at-reader.ensures.place list behind))) c.explain.ensures)

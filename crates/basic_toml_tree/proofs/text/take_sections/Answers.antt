@@ -1,15 +1,20 @@
 use Rattle.std.proofs.Common.{◌≡◌, ◌++◌, ◌∷◌, [], ap, sym, ◌∙◌, map, refl}
 use Rattle.basic_toml_read.specs.SectionView.{section_of, key_of}
 use Rattle.basic_toml_tree.specs.Resolve.{head}
-use Rattle.basic_toml_tree.proofs.SectionsGrown.{more_entered}
-use Rattle.basic_toml_tree.proofs.TreeOfText.{grows_at_start, next_is_read, grows_on, ends_well, stops, wants_memory}
+use Rattle.basic_toml_tree.proofs.SectionsGrown.{more_entered, none_entered}
+use Rattle.basic_toml_tree.proofs.TreeOfText.{next_is_read, ends_well, stops, wants_memory}
 use Rattle.basic_toml_tree.proofs.TreeOfText.{clashes, place_reached, place_behind}
 use Rattle.basic_toml_tree.proofs.text.take_sections.Goals as goal
 
 pub loop-stop-init : goal.loop-stop-init
 loop-stop-init c = (
-  grows_at_start c.args.text.now c.args.reader.now c.args.tree.now.headers c.args.tree.now.root c.requires.reader
-      c.requires.headers c.requires.root,
+  record {
+    list = [];
+    text = c.requires.reader.text;
+    ready = c.requires.reader.ready;
+    so_far = c.requires.reader.none;
+    have = none_entered c.args.tree.now.headers c.args.tree.now.root c.requires.headers c.requires.root;
+  },
   c.requires.section,
 )
 
@@ -64,12 +69,16 @@ loop-stop-preserved c =
     let after = c.enter_section.new.section in
     let pushed : (after.at, map key_of after.header.items) ≡ head (section_of s) =
     rw (c.in_default.ensures.at, c.in_default.ensures.header) refl in (
-      grows_on text c.next.new.self c.loop-stop.tree.headers c.push.new.self c.loop-stop.tree.root
-          c.enter_section.new.root s read
-          (more_entered read.list c.loop-stop.tree.headers c.loop-stop.tree.root read.have s c.enter_section.new.root
-          c.push.new.self c.len-number.result c.len-number.ensures c.in_default.ensures.entered
-          c.in_default.ensures.origins c.in_default.ensures.marks
-          (c.in_ok-push.ensures.ok ∙ ap (λ h. c.loop-stop.tree.headers ++ h ∷ []) pushed)),
+      record {
+        list = read.list ++ section_of s ∷ [];
+        text = read.text;
+        ready = read.ready;
+        so_far = read.so_far;
+        have = more_entered read.list c.loop-stop.tree.headers c.loop-stop.tree.root read.have s
+            c.enter_section.new.root c.push.new.self c.len-number.result c.len-number.ensures
+            c.in_default.ensures.entered c.in_default.ensures.origins c.in_default.ensures.marks
+            (c.in_ok-push.ensures.ok ∙ ap (λ h. c.loop-stop.tree.headers ++ h ∷ []) pushed);
+      },
       record { header = c.in_ok-push.ensures.taken; rows = c.in_default.ensures.taken },
     )
 

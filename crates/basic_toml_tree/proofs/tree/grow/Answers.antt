@@ -1,12 +1,14 @@
-use Rattle.std.proofs.Common.{◌≡◌, ◌<◌, ◌++◌, ◌∷◌, [], ◌∙◌, ap, sym, map, length, arith, rules, set}
+use Rattle.std.proofs.Common.{◌≡◌, ◌<◌, ◌++◌, ◌∷◌, [], ◌∙◌, ap, sym, map, length, arith, rules, set, subst}
 use Rattle.std.proofs.lemmas.List.{length-set, get_or-set_other}
 use Rattle.basic_toml_read.specs.declared.section.Section as code
 use Rattle.basic_toml_read.specs.SectionView.{section_of, key_of}
 use Rattle.basic_toml_grow.specs.Crossed.{first_crossed}
-use Rattle.basic_toml_tree.specs.Resolve.{head}
-use Rattle.basic_toml_tree.proofs.SectionsResolved.{want_of, goes_on_from_a_value, stays_out, none_crossed, goes_on}
+use Rattle.basic_toml_grammar.specs.Faults.{Fault}
+use Rattle.basic_toml_tree.specs.Resolve.{head, IsUnresolved, refused}
+use Rattle.basic_toml_tree.proofs.SectionsResolved.{want_of, stays_out, none_crossed, goes_on}
 use Rattle.basic_toml_tree.proofs.SectionsResolved.{resolved, begins, none_left}
 use Rattle.basic_toml_tree.proofs.tree.grow.Goals as goal
+use Rattle.basic_toml_tree.specs.FirstStop.{value}
 
 pub returns-in_err-at : goal.returns-in_err-at
 returns-in_err-at c =
@@ -15,9 +17,9 @@ returns-in_err-at c =
 
 pub returns-in-Some : goal.returns-in-Some
 returns-in-Some c = λ keyed.
-    goes_on_from_a_value c.args.sections.items c.in-Some.at c.at.result
-    (ap (λ ss. first_crossed (map section_of ss)) (sym c.as_slice.ensures.value) ∙ sym c.in_ok-at.ensures ∙ c.in-Some.is)
-    c.at.ensures
+    subst (λ (f : Fault). IsUnresolved (map section_of c.args.sections.items) f) (sym c.at.ensures)
+    (refused (value (ap (λ ss. first_crossed (map section_of ss)) (sym c.as_slice.ensures.value)
+    ∙ sym c.in_ok-at.ensures ∙ c.in-Some.is)))
 
 pub returns-in-Err : goal.returns-in-Err
 returns-in-Err c = λ keyed.

@@ -9,8 +9,7 @@ use Rattle.basic_toml_plain.proofs.DataParts.{array_seen, table_seen, entries_se
 use Rattle.basic_toml_plain.proofs.WhatIsLeft.{mapped_next, nothing_left, none_after}
 use Rattle.basic_toml_tree.specs.Data.{data_of, child_data, table_data, child_pair}
 use Rattle.basic_toml_tree.proofs.ItemData.{child_item, children_data, inline_data, table_item_data}
-use Rattle.basic_toml_tree.proofs.ItemData.{table_of_pairs, tables_data}
-use Rattle.basic_toml_tree.proofs.ItemData.{keys_copied, refused_held, tables_whole}
+use Rattle.basic_toml_tree.proofs.ItemData.{table_of_pairs, tables_data, keys_copied, refused_held, tables_whole}
 use Rattle.basic_toml_value.proofs.KeysSeen.{keys_of-seen}
 use Rattle.basic_toml_tree.proofs.SectionData.{section_moved}
 use Rattle.basic_toml_tree.proofs.values.+moves.Goals as goal
@@ -48,16 +47,14 @@ pub into_many_entries-loop-pair-init : goal.into_many_entries-loop-pair-init
 into_many_entries-loop-pair-init t c =
     let start : c.into_iter-pair-iterator.result ≡ c.args.pairs.items =
     c.into_iter-pair-iterator.ensures.into_iter_gives ∙ c.drain-pair-items.ensures in
-    let room = c.in_ok-moved.ensures.capacity in
-    let empty = c.in_ok-moved.ensures.len in (
-      ap (λ ps. map value_pair ps ++ map child_pair c.into_iter-pair-iterator.result) c.in_ok-moved.ensures.items,
-      omega (arith, ap length start, room, empty, c.len.ensures, c.args.pairs.ok.0),
+    let room = c.in_ok-moved.ensures in (
+      ap (λ ps. map value_pair ps ++ map child_pair c.into_iter-pair-iterator.result) room.items,
+      omega (arith, ap length start, room.capacity, room.len, c.len.ensures, c.args.pairs.ok.0),
     )
 
 pub into_many_entries-push_reserved-requires : goal.into_many_entries-push_reserved-requires
 into_many_entries-push_reserved-requires t c =
-    let left = ap length c.in-Some.ensures.steps in
-    omega (arith, left, c.loop-pair.invariant.1)
+    omega (arith, ap length c.in-Some.ensures.steps, c.loop-pair.invariant.1)
 
 pub into_many_entries-loop-pair-preserved : goal.into_many_entries-loop-pair-preserved
 into_many_entries-loop-pair-preserved t c =
@@ -72,12 +69,10 @@ into_many_entries-loop-pair-preserved t c =
 
 pub into_entries-loop-pair-init : goal.into_entries-loop-pair-init
 into_entries-loop-pair-init t c =
-    let none = c.in_ok-moved.ensures.items in
     let same = ap length c.into_iter-pair-iterator.ensures.into_iter_gives.0 in
-    let room = c.in_ok-moved.ensures.capacity in
-    let empty = c.in_ok-moved.ensures.len in (
-      ap (λ ps. map value_pair ps ++ map child_pair c.into_iter-pair-iterator.result.rest.items) none,
-      omega (arith, same, room, empty, c.len.ensures, c.len-2.ensures, c.args.pairs.ok.0),
+    let room = c.in_ok-moved.ensures in (
+      ap (λ ps. map value_pair ps ++ map child_pair c.into_iter-pair-iterator.result.rest.items) room.items,
+      omega (arith, same, room.capacity, room.len, c.len.ensures, c.len-2.ensures, c.args.pairs.ok.0),
     )
 
 pub into_entries-into_value-requires : goal.into_entries-into_value-requires
@@ -93,8 +88,7 @@ into_entries-into_value-requires t c =
 
 pub into_entries-push_reserved-requires : goal.into_entries-push_reserved-requires
 into_entries-push_reserved-requires t c =
-    let left = ap length c.in-Some.ensures.steps.0 in
-    omega (arith, left, c.loop-pair.invariant.1)
+    omega (arith, ap length c.in-Some.ensures.steps.0, c.loop-pair.invariant.1)
 
 pub into_entries-loop-pair-preserved : goal.into_entries-loop-pair-preserved
 into_entries-loop-pair-preserved t c =
@@ -151,16 +145,14 @@ pub into_tables-loop-table-init : goal.into_tables-loop-table-init
 into_tables-loop-table-init t c =
     let start : c.into_iter-table-iterator.result ≡ c.args.tables.items =
     c.into_iter-table-iterator.ensures.into_iter_gives ∙ c.drain-table-items.ensures in
-    let room = c.in_ok-elements.ensures.capacity in
-    let empty = c.in_ok-elements.ensures.len in (
-      ap (λ vs. map view vs ++ map table_data c.into_iter-table-iterator.result) c.in_ok-elements.ensures.items,
-      omega (arith, ap length start, room, empty, c.len.ensures, c.args.tables.ok.0),
+    let room = c.in_ok-elements.ensures in (
+      ap (λ vs. map view vs ++ map table_data c.into_iter-table-iterator.result) room.items,
+      omega (arith, ap length start, room.capacity, room.len, c.len.ensures, c.args.tables.ok.0),
     )
 
 pub into_tables-push_reserved-requires : goal.into_tables-push_reserved-requires
 into_tables-push_reserved-requires t c =
-    let left = ap length c.in-Some.ensures.steps in
-    omega (arith, left, c.loop-table.invariant.1)
+    omega (arith, ap length c.in-Some.ensures.steps, c.loop-table.invariant.1)
 
 pub into_tables-loop-table-preserved : goal.into_tables-loop-table-preserved
 into_tables-loop-table-preserved t c =

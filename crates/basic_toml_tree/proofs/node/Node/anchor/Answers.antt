@@ -1,4 +1,4 @@
-use Rattle.std.proofs.Common.{◌≡◌, rules}
+use Rattle.std.proofs.Common.{rules}
 use Rattle.basic_toml_tree.specs.Origin.{anchor_of}
 use Rattle.basic_toml_tree.proofs.Nodes.NodesAnchored.{anchored}
 use Rattle.basic_toml_tree.proofs.node.Node.anchor.Goals as goal
@@ -6,5 +6,4 @@ use Rattle.basic_toml_tree.proofs.node.Node.anchor.Goals as goal
 pub returns-else-self-eq0-clause-leads : goal.returns-else-self-eq0-clause-leads
 unfolding anchor_of
 returns-else-self-eq0-clause-leads c =
-    let same : c.anchor.result ≡ anchor_of c.args.self = search (rules) in
-    anchored c.anchor.result c.args.self same
+    anchored c.anchor.result c.args.self (search (rules))

@@ -1,4 +1,4 @@
-use Rattle.std.proofs.Common.{◌≡◌, rules}
+use Rattle.std.proofs.Common.{rules}
 use Rattle.basic_toml_tree.specs.Origin.{offset_of}
 use Rattle.basic_toml_tree.proofs.Foretold.NodesForetold.{place_foretold}
 use Rattle.basic_toml_tree.proofs.node.Node.place.Goals as goal
@@ -6,23 +6,19 @@ use Rattle.basic_toml_tree.proofs.node.Node.place.Goals as goal
 pub returns-in-Item-Array-clause-foretold : goal.returns-in-Item-Array-clause-foretold
 unfolding offset_of
 returns-in-Item-Array-clause-foretold c =
-    let same : c.outer_place.result ≡ offset_of c.args.self = search (rules) in
-    λ sections p. place_foretold c.outer_place.result c.args.self same sections p
+    place_foretold c.outer_place.result c.args.self (search (rules))
 
 pub returns-in-Item-Plain-clause-foretold : goal.returns-in-Item-Plain-clause-foretold
 unfolding offset_of
 returns-in-Item-Plain-clause-foretold c =
-    let same : c.outer_place-in-Item-Plain.result ≡ offset_of c.args.self = search (rules) in
-    λ sections p. place_foretold c.outer_place-in-Item-Plain.result c.args.self same sections p
+    place_foretold c.outer_place-in-Item-Plain.result c.args.self (search (rules))
 
 pub returns-in-Plain-clause-foretold : goal.returns-in-Plain-clause-foretold
 unfolding offset_of
 returns-in-Plain-clause-foretold c =
-    let same : c.outer_place-in-Plain.result ≡ offset_of c.args.self = search (rules) in
-    λ sections p. place_foretold c.outer_place-in-Plain.result c.args.self same sections p
+    place_foretold c.outer_place-in-Plain.result c.args.self (search (rules))
 
 pub returns-in_default-clause-foretold : goal.returns-in_default-clause-foretold
 unfolding offset_of
 returns-in_default-clause-foretold c =
-    let same : c.start.result ≡ offset_of c.args.self = search (rules) in
-    λ sections p. place_foretold c.start.result c.args.self same sections p
+    place_foretold c.start.result c.args.self (search (rules))
