@@ -26,10 +26,7 @@ names : (clash : Clash) (x : Stop) (o : Outcome Trie) → IsStop clash x → o �
     → NamesObstacle (and_behind o (λ _. None)) clash
 names clashes.Memory x o is told = absurd is
 names clashes.Deep x o is told = absurd is
-names (clashes.Header left) x o is told = (x, (is, ap (λ (o : Outcome Trie). and_behind o (λ _. None)) told))
-names clashes.Named x o is told = (x, (is, ap (λ (o : Outcome Trie). and_behind o (λ _. None)) told))
-names clashes.Redefined x o is told = (x, (is, ap (λ (o : Outcome Trie). and_behind o (λ _. None)) told))
-names (clashes.Row met) x o is told = (x, (is, ap (λ (o : Outcome Trie). and_behind o (λ _. None)) told))
+names _ x o is told = (x, (is, ap (λ (o : Outcome Trie). and_behind o (λ _. None)) told))
 
 -- what holds of each clash that is a stop
 pub if_stop : {E : Type 0} (result : Result Clash E) (x : Stop) (P : Clash → Type 0)

@@ -51,13 +51,10 @@ tells_rows None None rows x y = no_faults rows x y
 
 mutual
   tells_of : (v : Raw) → Tells (crossed_of v) (dotted_faults_in v)
-  tells_of (Raw.integer z) = refl
-  tells_of (Raw.float t) = refl
-  tells_of (Raw.boolean b) = refl
-  tells_of (Raw.string t _) = refl
   tells_of (Raw.array es) = tells_among es
   tells_of (Raw.inline rows) =
       tells_rows (crossed_between rows) (crossed_within rows) rows (tells_between rows) (tells_within rows)
+  tells_of _ = refl
 
   tells_among : (es : Elements) → Tells (crossed_among es) (dotted_faults_among es)
   tells_among no_elements = refl

@@ -1,15 +1,16 @@
 -- What a section does to a table, to what stands at a key and to an item, by the keys of its header that are left: what
 -- is entered or is met first, what its rows bring, and what its header marks. What it does to one of these it does to
 -- what holds that one.
-use Rattle.std.specs.Prelude.{IfErr}
 use Rattle.std.specs.List.{slice_get}
-use Rattle.std.proofs.Common.{◌≡◌, ◌≤◌, ℕ, ◌+◌, Bool, true, false, List, ◌∷◌, length, map, Option, Some, refl, ap}
-use Rattle.std.proofs.Common.{ap₂, sym, ◌∙◌, subst, arith, Vec, Box, Global, Result, IsErrAnd}
+use Rattle.std.proofs.Common.{◌≡◌, ◌≤◌, ◌<◌, ℕ, suc, ◌+◌, Bool, true, false, List, [], ◌∷◌, length, map, Some, refl, ap}
+use Rattle.std.proofs.Common.{ap₂, sym, ◌∙◌, subst, arith, inr, Vec, Box, Global, Result, Err, IsErrAnd}
 use Rattle.basic_toml_value.specs.Nesting.{nesting_limit}
 use Rattle.basic_toml_value.specs.Growth.{FindsOrAdds, with_value, values_of}
 use Rattle.basic_toml_value.specs.declared.pairs.growth.Place.{Place}
 use Rattle.basic_toml_grammar.specs.Sections.{KeyTexts, Rows}
-use Rattle.basic_toml_grammar.specs.Trie.{put_element, walk, steps_to}
+use Rattle.basic_toml_grammar.specs.Stops.{at_header}
+use Rattle.basic_toml_grammar.specs.Trie.{put_element, walk, count, steps_on, steps_to}
+use Rattle.basic_toml_plain.specs.Tries.{leaf}
 use Rattle.basic_toml_read.specs.declared.section.Key as code
 use Rattle.basic_toml_read.specs.KeyText.{key_text_bytes}
 use Rattle.basic_toml_read.specs.SectionView.{header_texts}
@@ -18,28 +19,29 @@ use Rattle.basic_toml_grow.specs.declared.item.Item.{Item}
 use Rattle.basic_toml_grow.specs.declared.item.Item as items
 use Rattle.basic_toml_grow.specs.declared.item.Child.{Child, out-Child}
 use Rattle.basic_toml_grow.specs.declared.item.Table.{Table, out-Table}
-use Rattle.basic_toml_grow.specs.Clash.{Obstacle, NamesObstacle}
+use Rattle.basic_toml_grow.specs.declared.clash.Clash.TheVariants.{Deep, Header}
+use Rattle.basic_toml_grow.specs.Clash.{NamesObstacle, in_the_way}
 use Rattle.basic_toml_grow.specs.Item.{child_trie, item_trie, table_trie, trie_before, is_section}
 use Rattle.basic_toml_grow.specs.Simple.{with_entries}
-use Rattle.basic_toml_grow.specs.Headers.{IsKeptOut, IsNew, entered_by}
-use Rattle.basic_toml_grow.specs.Headers.{steps_by, is_last}
+use Rattle.basic_toml_grow.specs.Headers.{EntersItem, IsKeptOut, IsNew, entered_at, highest, is_last}
 use Rattle.basic_toml_grow.specs.Obstacles.{element_obstacle}
 use Rattle.basic_toml_grow.specs.Origins.{child_origins, item_origins, origins_before}
-use Rattle.basic_toml_grow.specs.Origins.{rows_origins}
-use Rattle.basic_toml_grow.specs.Ways.{way_by, way_at}
+use Rattle.basic_toml_grow.specs.Origins.{rows_origins, table_within}
+use Rattle.basic_toml_grow.specs.Ways.{way, way_by, way_at}
 use Rattle.basic_toml_grow.specs.Takes.{TakesHeader, TakesHeaderAtKey, TakesHeaderInItem}
 use Rattle.basic_toml_grow.proofs.RowsEntered.{ok_on}
-use Rattle.basic_toml_grow.proofs.HeadersInATrie.{array_of}
+use Rattle.basic_toml_grow.proofs.HeadersInATrie.{array_of, Course, course, course_by, course_barred, course_latest}
+use Rattle.basic_toml_grow.proofs.HeadersInATrie.{deep_met, in_latest, in_table}
+use Rattle.basic_toml_grow.proofs.HeadersNamed.{texts_count}
+use Rattle.basic_toml_grow.proofs.ItemTries.{child_item_trie, table_entries_trie}
 use Rattle.basic_toml_grow.proofs.TablesOpened.{table_item_trie, tables_trie}
-use Rattle.basic_toml_grow.proofs.HeadersEntered.{failed, holding, holding_trie, item_by, out_holding, same_before}
-use Rattle.basic_toml_grow.proofs.HeadersEntered.{same_mapped, passed_table, passes, passed_by, passed_number}
-use Rattle.basic_toml_grow.proofs.HeadersEntered.{into_table, into_latest, steps_into_table, steps_into_latest}
-use Rattle.basic_toml_grow.proofs.HeadersStopped.{passed_met, met_in_table, met_in_latest}
-use Rattle.basic_toml_grow.proofs.HeadersLead.{Leads, lead, last_out, last_met, no_new_section}
-use Rattle.basic_toml_grow.proofs.Origins.HeadersPlaceOrigins.{grows_after, holding_origins, passed_grows, same_came}
-use Rattle.basic_toml_grow.proofs.Origins.HeadersPlaceOrigins.{table_grows}
-use Rattle.basic_toml_grow.proofs.Origins.ElementsPlaceOrigins.{latest_grows}
-use Rattle.basic_toml_grow.proofs.Origins.HeadersMark.{passed_marks, table_marks, latest_marks}
+use Rattle.basic_toml_grow.proofs.HeadersEntered.{entered_on, failed, holding, holding_trie, other_is_leaf, out_holding}
+use Rattle.basic_toml_grow.proofs.HeadersEntered.{passed_course, passed_table, passed_trie, passed_with, passes}
+use Rattle.basic_toml_grow.proofs.HeadersLead.{Leads, lead, no_new_section}
+use Rattle.basic_toml_grow.proofs.Origins.OriginsSeen.{child_seen, table_item_seen, table_origins}
+use Rattle.basic_toml_grow.proofs.Origins.HeadersPlaceOrigins.{entry_grows, grows_after, holding_origins, passed_grows}
+use Rattle.basic_toml_grow.proofs.Origins.ElementsPlaceOrigins.{latest_grows, latest_marks, table_marked}
+use Rattle.basic_toml_grow.proofs.Origins.HeadersMark.{passed_marks}
 
 -- A table is passed by a key.
 pub from_key : {gives : Child → Type 0} {a : Bool} {rows : Rows} {k : List ℕ} {level n : ℕ}
@@ -50,58 +52,100 @@ pub from_key : {gives : Child → Type 0} {a : Bool} {rows : Rows} {k : List ℕ
     → TakesHeaderAtKey a rows (header_texts rest) level n p.is_new there now r
     → TakesHeader a rows (header_texts (key ∷ rest)) level n t (with_entries (passed_table t new n)
     (with_value (out-Table (passed_table t new n)).entries p.position now)) r
-from_key {gives} {a} {rows} {k} {level} {n} {new} {p} {there} {now} {r} t key rest text within entered stands from =
+from_key {a = a} {rows = rows} {k = k} {level = level} {n = n} {new = new} {p = p} {there = there} {now = now} {r = r} t
+    key rest text within entered stands from =
     let keys = header_texts rest in
-    let whole = header_texts (key ∷ rest) in
-    let same : whole ≡ k ∷ keys = ap (λ k. k ∷ keys) (sym text) in
-    let pass = passes k t new n p there now entered stands in record {
-      entered = passed_by a rows k keys whole level t _ p there now same pass r from.entered;
-      named = subst (λ (o : Option Obstacle). IfErr r (λ clash. NamesObstacle o clash))
-          (sym (passed_met a rows k keys whole level t _ p there now within same pass)) from.named;
-      origins = ok_on _ _ r
-          (λ x grows. passed_grows a (rows_origins n rows) k keys whole t _ p there now same pass grows) from.origins;
-      marks = ok_on _ _ r
-          (λ x marks. passed_marks n a k keys whole t _ p there now same pass
-          (passed_number t new n p.position now) marks) from.marks;
-    }
+    let after = with_entries (passed_table t new n)
+    (with_value (out-Table (passed_table t new n)).entries p.position now) in
+    let pass = passes t n now entered stands in
+    let met = passed_course pass a rows keys level within in
+    let before = trie_before p.is_new (child_trie there) in
+    let way_is = ap (λ (c : Course). c.way) met in
+    subst (λ (ks : KeyTexts). TakesHeader a rows ks level n t after r) (ap (λ k. k ∷ keys) text) (record {
+      entered = entered_on (entered_at a rows keys before) (child_trie now) rows (passed_with pass) r
+          (ap (λ (c : Course). c.entered) met) (ap (λ (c : Course). level + c.steps) met) (passed_trie pass)
+          from.entered;
+      named = rw (ap (λ (c : Course). c.met) met) from.named;
+      origins = rw way_is (ok_on _ _ r (λ x grows. passed_grows pass _ (rows_origins n rows) grows) from.origins);
+      marks = rw way_is (ok_on _ _ r (λ x marks. passed_marks pass _ marks) from.marks);
+    })
 
 -- The item is a table, or an array of tables, whose latest is gone on from.
 module _ (a : Bool) (rows : Rows) (keys : KeyTexts) (level n : ℕ) (r : Result (Unit {0}) Clash) where
   pub from_table : (old after : Box Table Global) → TakesHeader a rows keys (level + 1) n old.value after.value r
       → TakesHeaderInItem a rows keys level n (items.Table old) (items.Table after) r
   from_table old after from =
-      let i = items.Table old in
-      let t = table_trie old.value in record {
-        entered = item_by (entered_by a rows keys (item_trie i)) rows level ((level + 1) + steps_to a keys t)
-            (steps_by a keys (item_trie i)) (walk a rows keys t) (table_trie after.value) _ (λ t. t) r
-            (same_mapped _ _ (into_table a rows keys i old refl))
-            (omega (arith, steps_into_table a keys i old refl)) (table_item_trie after) from.entered;
-        named = subst (λ (o : Option Obstacle). IfErr r (λ clash. NamesObstacle o clash))
-            (sym (met_in_table a rows keys (level + 1) i old refl)) from.named;
-        origins = ok_on _ _ r
-            (λ x grows. table_grows a keys (rows_origins n rows) i _ old after refl refl grows) from.origins;
-        marks = ok_on _ _ r (λ x marks. table_marks n a keys i _ old after refl refl marks) from.marks;
+      let t = table_entries_trie old.value in
+      let met : course_by a rows keys (level + 1) (item_trie (items.Table old))
+      ≡ in_table (course a rows keys (level + 1) (table_trie old.value)) =
+      ap (course_by a rows keys (level + 1)) (table_item_trie old ∙ t)
+      ∙ ap (λ t. in_table (course a rows keys (level + 1) t)) (sym t) in
+      let way_is = ap (λ (c : Course). c.way) met in record {
+        entered = rw (ap (λ (c : Course). c.entered) met, ap (λ (c : Course). c.steps) met, table_item_trie after)
+            (subst (λ m. EntersItem (walk a rows keys (table_trie old.value)) rows m (table_trie after.value) r)
+            (omega arith) from.entered);
+        named = rw (ap (λ (c : Course). c.met) met) from.named;
+        origins = rw way_is (ok_on _ _ r (λ x grows. λ at s. rw (table_item_seen old at s, table_item_seen after at s)
+            (entry_grows (way a keys (table_trie old.value)) (rows_origins n rows) (table_origins old.value)
+            (table_origins after.value) _ _ (λ s p not. grows (s ∷ p) not))) from.origins);
+        marks = rw way_is (ok_on _ _ r (λ x marks. λ at s. rw (table_item_seen after at s)
+            (table_marked n _ (table_within after.value) at s marks)) from.marks);
       }
 
   pub from_latest : (old after : Box (Vec Table Global × Table) Global) → after.value.0 ≡ old.value.0
       → TakesHeader a rows keys (level + 2) n old.value.1 after.value.1 r
       → TakesHeaderInItem a rows keys level n (items.Tables old) (items.Tables after) r
   from_latest old after same from =
-      let i = items.Tables old in
-      let t = table_trie old.value.1 in record {
-        entered = item_by (entered_by a rows keys (item_trie i)) rows level ((level + 2) + steps_to a keys t)
-            (steps_by a keys (item_trie i)) (walk a rows keys t) (table_trie after.value.1) _
-            (λ u. array_of (map table_trie old.value.0.items) u) r (into_latest a rows keys i old refl)
-            (omega (arith, steps_into_latest a keys i old refl))
+      let before = map table_trie old.value.0.items in
+      let t = table_trie old.value.1 in
+      let met : course_by a rows keys (level + 1) (item_trie (items.Tables old))
+      ≡ in_latest before (course a rows keys (level + 2) t) =
+      ap (course_by a rows keys (level + 1)) (tables_trie old)
+      ∙ course_latest a rows keys (level + 1) (level + 2) before t (omega arith) in
+      let way_is = ap (λ (c : Course). c.way) met in record {
+        entered = entered_on (walk a rows keys t) (table_trie after.value.1) rows (λ u. array_of before u) r
+            (ap (λ (c : Course). c.entered) met)
+            (ap (λ (c : Course). level + c.steps) met ∙ omega arith)
             (tables_trie after
             ∙ ap (λ (ts : Vec Table Global). array_of (map table_trie ts.items) (table_trie after.value.1)) same)
             from.entered;
-        named = subst (λ (o : Option Obstacle). IfErr r (λ clash. NamesObstacle o clash))
-            (sym (met_in_latest a rows keys (level + 1) (level + 2) i old (omega arith) refl)) from.named;
-        origins = ok_on _ _ r
-            (λ x grows. latest_grows a keys (rows_origins n rows) i _ old after refl refl same grows) from.origins;
-        marks = ok_on _ _ r (λ x marks. latest_marks n a keys i _ old after refl refl same marks) from.marks;
+        named = rw (ap (λ (c : Course). c.met) met) from.named;
+        origins = rw way_is (ok_on _ _ r
+            (λ x grows. latest_grows old after _ (rows_origins n rows) same grows) from.origins);
+        marks = rw way_is (ok_on _ _ r (λ x marks. latest_marks old after n _ same marks) from.marks);
       }
+
+-- A value stands there, which bars a header.
+module _ (a : Bool) (rows : Rows) (keys : List code.Key) (level n : ℕ) (i : Item) (no_section : is_section i ≡ false)
+    (no_table : (t : Box Table Global) → i ≡ items.Table t → ⊥)
+    (no_tables : (b : Box (Vec Table Global × Table) Global) → i ≡ items.Tables b → ⊥) where
+  pub from_value : level < nesting_limit
+      → TakesHeaderInItem a rows (header_texts keys) level n i i (Err (Header (length keys + 1)))
+  from_value low =
+      let seen = other_is_leaf i no_section no_table no_tables in
+      let barred = course_barred a rows (header_texts keys) (level + 1) seen.0 (omega (arith, low)) in
+      let left : suc (length (header_texts keys)) ≡ length keys + 1 = omega (arith, texts_count keys) in record {
+        entered = inr (rw seen.1 barred.0);
+        named = (
+          at_header (length keys + 1),
+          (refl, rw seen.1 (barred.1 ∙ ap (λ (n : ℕ). Some (in_the_way (at_header n))) left)),
+        );
+        origins = tt;
+        marks = tt;
+      }
+
+  pub from_deep_value : nesting_limit ≤ level → TakesHeaderInItem a rows (header_texts keys) level n i i (Err Deep)
+  from_deep_value high =
+      let seen = other_is_leaf i no_section no_table no_tables in
+      let t = item_trie i in record {
+        entered = further (steps_on (λ t. steps_to a (header_texts keys) t) (count t) t);
+        named = rw seen.1 (deep_met a rows (header_texts keys) (level + 1) (leaf seen.0) (omega (arith, high)));
+        origins = tt;
+        marks = tt;
+      }
+    where
+      further : (m : ℕ) → nesting_limit < highest (level + suc m) rows
+      further m = omega (arith, high)
 
 -- A child leads on to the item of another.
 pub record LeadsOn (a : Bool) (rows : Rows) (keys : KeyTexts) (l : ℕ) (is_new : Bool) (mid there : Child) : Type 0 where
@@ -150,38 +194,42 @@ pub from_item : (a : Bool) (rows : Rows) (keys : KeyTexts) (level n : ℕ) (is_n
     → TakesHeaderInItem a rows keys level n (out-Child there).item item r
     → TakesHeaderAtKey a rows keys level n is_new old (holding there item) r
 from_item a rows keys level n is_new old mid there item r same came on from =
-    let lead = on.leads in
+    let same_course = on.leads.same in
     let i = (out-Child there).item in
     let at = (out-Child there).start in
     let s = (out-Child there).section in
     let b = trie_before is_new (item_trie (out-Child mid).item) in
-    let before : b ≡ trie_before is_new (child_trie old) = same_before is_new mid old same in
+    let before : b ≡ trie_before is_new (child_trie old) =
+    ap (trie_before is_new) (sym (child_item_trie mid) ∙ same) in
     let was = origins_before is_new (item_origins (out-Child mid).item at s) in
     let was_is : was ≡ origins_before is_new (child_origins old) =
     ap₂ (λ at s. origins_before is_new (item_origins (out-Child mid).item at s)) on.start on.section
-    ∙ same_came is_new mid old came in
-    let way_is : way_at a keys b ≡ way_by a keys (item_trie i) = lead.way in record {
-      entered = rw (holding_trie there item, ← before, lead.entered, lead.steps) from.entered;
-      named = rw (← before, lead.met) from.named;
+    ∙ ap (origins_before is_new) (sym (child_seen mid) ∙ came) in
+    let way_is : way_at a keys b ≡ way_by a keys (item_trie i) = ap (λ (c : Course). c.way) same_course in record {
+      entered = rw (
+        holding_trie there item,
+        ← before,
+        ap (λ (c : Course). c.entered) same_course,
+        ap (λ (c : Course). c.steps) same_course,
+      ) from.entered;
+      named = rw (← before, ap (λ (c : Course). c.met) same_course) from.named;
       origins = rw (holding_origins there item, ← before, way_is, ← was_is) (ok_on _ _ r
           (λ x grows. grows_after (way_by a keys (item_trie i)) (rows_origins n rows) was (item_origins i at s)
-          (item_origins item at s) (lead.keeps at s) (grows at s)) from.origins);
+          (item_origins item at s) (on.leads.keeps at s) (grows at s)) from.origins);
       marks = rw (holding_origins there item, ← before, way_is) (ok_on _ _ r (λ x marks. marks at s) from.marks);
     }
 
 -- A child to which no table is added leads on to nothing.
-pub from_none : (a : Bool) (rows : Rows) (keys : List code.Key) (level n : ℕ) (is_new : Bool) (old mid now : Child)
-    (r : Result (Unit {0}) Clash) (clash : Clash) → child_trie mid ≡ child_trie old → a ≡ true → length keys ≡ 0
-    → is_new ≡ false
+pub from_none : (rows : Rows) (level n : ℕ) (old mid now : Child) (r : Result (Unit {0}) Clash) (clash : Clash)
+    → child_trie mid ≡ child_trie old
     → ((rows : Rows) → IsKeptOut (put_element rows (item_trie (out-Child mid).item)) rows (level + 2) clash)
     → ((rows : Rows) → NamesObstacle (element_obstacle (level + 1) rows (item_trie (out-Child mid).item)) clash)
-    → IsErrAnd r (λ f. f ≡ clash) → TakesHeaderAtKey a rows (header_texts keys) level n is_new old now r
-from_none a rows keys level n is_new old mid now r clash same array none not out named is =
-    let i = (out-Child mid).item in
-    let before = same_before is_new mid old same in
-    failed (λ r. TakesHeaderAtKey a rows (header_texts keys) level n is_new old now r) r clash is (record {
-      entered = rw (← before) (last_out rows i clash a keys level is_new (child_trie now) array none not (out rows));
-      named = rw (← before) (last_met rows i clash a keys (level + 1) is_new array none not (named rows));
+    → IsErrAnd r (λ f. f ≡ clash) → TakesHeaderAtKey true rows [] level n false old now r
+from_none rows level n old mid now r clash same out named is =
+    let before = sym (child_item_trie mid) ∙ same in
+    failed (λ r. TakesHeaderAtKey true rows [] level n false old now r) r clash is (record {
+      entered = rw (← before) (out rows);
+      named = rw (← before) (named rows);
       origins = tt;
       marks = tt;
     })

@@ -2,7 +2,7 @@
 use Rattle.std.proofs.Common.{◌≡◌, ℕ, zero, suc, ◌-◌, ◌+◌, ◌<◌, ◌≤◌, List, [], ◌∷◌, ◌++◌, length, map, take, get_or}
 use Rattle.std.proofs.Common.{refl, sym, ap, ◌∙◌, arith}
 use Rattle.std.specs.List.{join_with_byte}
-use Rattle.std.proofs.lemmas.List.{append_assoc, take_more}
+use Rattle.std.proofs.lemmas.List.{append_assoc, length-map, take-map, take_more}
 use Rattle.basic_toml_tokens.specs.Ascii.{period}
 use Rattle.basic_toml_grammar.specs.Sections.{KeyTexts, texts}
 use Rattle.basic_toml_grammar.specs.Faults.{duplicate_key, duplicate_table, redefine_as_array}
@@ -35,18 +35,8 @@ text_read [] n other k is = refl
 text_read (c ∷ keys) zero other k is = is
 text_read (c ∷ keys) (suc n) other k is = text_read keys n other k is
 
-first_keys : (n : ℕ) (keys : List code.Key) → take n (map key_of keys) ≡ map key_of (take n keys)
-first_keys zero keys = refl
-first_keys (suc n) [] = refl
-first_keys (suc n) (k ∷ keys) = ap (λ ks. key_of k ∷ ks) (first_keys n keys)
-
-keys_count : (keys : List code.Key) → length (map key_of keys) ≡ length keys
-keys_count [] = refl
-keys_count (k ∷ keys) = ap suc (keys_count keys)
-
 pub texts_count : (keys : List code.Key) → length (header_texts keys) ≡ length keys
-texts_count [] = refl
-texts_count (k ∷ keys) = ap suc (texts_count keys)
+texts_count keys = length-map (map key_of keys) _ ∙ length-map keys key_of
 
 -- the fault of a header's key by the keys that are left from it on
 pub header_fault_is : (s : Section) (left n : ℕ) (key : List ℕ) (offset : ℕ) (path : KeyTexts)
@@ -55,9 +45,9 @@ pub header_fault_is : (s : Section) (left n : ℕ) (key : List ℕ) (offset : �
     → fault_within (duplicate_key key) offset path ≡ stop_fault (section_of s) (at_header left)
 header_fault_is s left n key offset path number is_key is_path =
     let at : length (section_of s).header - left ≡ n =
-    ap (λ m. m - left) (keys_count s.header.items) ∙ sym number in
+    ap (λ m. m - left) (length-map s.header.items key_of) ∙ sym number in
     let first : texts (take n (section_of s).header) ≡ path =
-    ap texts (first_keys n s.header.items) ∙ sym is_path in
+    ap texts (take-map key_of n s.header.items) ∙ sym is_path in
     rw (at, first, is_key) refl
 
 -- the faults that tell all keys of the header

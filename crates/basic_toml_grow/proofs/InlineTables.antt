@@ -12,10 +12,9 @@ use Rattle.basic_toml_plain.specs.Tries.{leaf, tree_data}
 use Rattle.basic_toml_grow.specs.declared.item.Item as items
 use Rattle.basic_toml_grow.specs.declared.item.Table.{Table}
 use Rattle.basic_toml_grow.specs.declared.clash.Clash.{Clash}
+use Rattle.basic_toml_grow.specs.declared.clash.Clash.TheVariants.{Memory, Deep}
 use Rattle.basic_toml_grow.specs.Item.{item_trie, table_trie}
-use Rattle.basic_toml_grow.specs.Rows.{AreIn, AreKeptOut, Reason, memory, deep, crossed, reason}
-use Rattle.basic_toml_grow.specs.Rows.{IsFinished, IsUnfinished}
-use Rattle.basic_toml_grow.proofs.Reasons.{KeptFor, for_kept, UnfinishedFor, unfinished_for}
+use Rattle.basic_toml_grow.specs.Rows.{AreIn, AreKeptOut, IsFinished, IsUnfinished}
 use Rattle.basic_toml_grammar.specs.Trie.{nothing}
 use Rattle.basic_toml_grow.specs.Clash.{Obstacle, NamesObstacle}
 use Rattle.basic_toml_grow.specs.Obstacles.{rows_obstacle, value_obstacle}
@@ -49,15 +48,11 @@ refused_clash rows s keyed none false clear =
 pub inline_kept_out : (rows : Rows) (s : Option standings.Standing) (before : Trie) (level : ℕ) (clash : Clash)
     → rows_keyed rows ≡ true → before ≡ trie s None no_tries → AreKeptOut rows (level + 1) before clash
     → IsUnfinished (Raw.inline rows) level clash
-inline_kept_out rows s before level clash keyed empty kept =
-    unfinished_for (Raw.inline rows) level clash (go (reason clash) (for_kept rows (level + 1) before clash kept))
-  where
-    go : (why : Reason) → KeptFor rows (level + 1) before why → UnfinishedFor (Raw.inline rows) level why
-    go memory kept = tt
-    go deep kept = omega arith
-    go crossed (inl clash) = clash
-    go crossed (inr none) =
-        refused_clash rows s keyed (ap (λ t. put_rows rows t) (sym empty) ∙ none) (rows_clash rows) refl
+inline_kept_out rows s before level Memory keyed empty kept = tt
+inline_kept_out rows s before level Deep keyed empty kept = omega arith
+inline_kept_out rows s before level _ keyed empty (inl clash) = clash
+inline_kept_out rows s before level _ keyed empty (inr none) =
+    refused_clash rows s keyed (ap (λ t. put_rows rows t) (sym empty) ∙ none) (rows_clash rows) refl
 
 -- what the rows of an empty table meet first those of an inline table do
 pub inline_stopped : (rows : Rows) (s : Option standings.Standing) (before : Trie) (level : ℕ) (clash : Clash)

@@ -10,6 +10,7 @@ use Rattle.basic_toml_grow.specs.declared.item.Child.{Child, out-Child}
 use Rattle.basic_toml_grow.specs.declared.item.Table.{Table, out-Table}
 use Rattle.basic_toml_grow.specs.Item.{item_trie, child_trie, table_trie}
 use Rattle.basic_toml_grow.specs.Simple.{with_entries}
+use Rattle.basic_toml_value.specs.Growth.{with_value}
 use Rattle.basic_toml_grow.proofs.KeysInATrie.{tries_of}
 
 -- the trie of a child is that of its item
@@ -31,6 +32,12 @@ entries_with t ps = search (rules, the_lemmas)
 pub with_entries_twice : (t : Table) (qs ps : List (List ℕ × Child))
     → with_entries (with_entries t qs) ps ≡ with_entries t ps
 with_entries_twice t qs ps = search (rules, the_lemmas)
+
+-- another child at a position of new entries
+pub with_entries_put : (t : Table) (new : List (List ℕ × Child)) (i : ℕ) (c : Child)
+    → with_entries (with_entries t new) (with_value (out-Table (with_entries t new)).entries i c)
+    ≡ with_entries t (with_value new i c)
+with_entries_put t new i c = search (rules, the_lemmas)
 
 pub with_entries_trie : (t : Table) (ps : List (List ℕ × Child))
     → table_trie (with_entries t ps) ≡ trie (standing (table_trie t)) None (by_keys (tries_of child_trie ps))

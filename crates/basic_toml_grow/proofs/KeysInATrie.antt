@@ -1,7 +1,7 @@
 -- A key that is entered among keys with their values, and what stands at it in the trie of these.
 use Rattle.std.proofs.Common.{◌≡◌, ℕ, suc, zero, true, false, ◌||◌, List, [], ◌∷◌, ◌++◌, refl, sym, take}
 use Rattle.std.proofs.Common.{if◌then◌else◌}
-use Rattle.std.proofs.Common.{ap, ◌∙◌, Option, Some, None, map, Bool}
+use Rattle.std.proofs.Common.{ap, ◌∙◌, Option, option_map, Some, map, Bool}
 use Rattle.std.specs.List.{slice_get}
 use Rattle.std.specs.Prelude.{not}
 use Rattle.std.specs.Str.{bytes_eq}
@@ -11,11 +11,12 @@ use Rattle.basic_toml_index.specs.Keys.{is_among}
 use Rattle.basic_toml_value.specs.Pairs.{keys_of, has_key}
 use Rattle.basic_toml_index.proofs.DistinctKeys.{bytes_eq-same, bytes_eq_other}
 use Rattle.basic_toml_grammar.specs.Steps as steps
-use Rattle.basic_toml_grammar.specs.Trie.{Trie, nothing, among, find}
+use Rattle.basic_toml_grammar.specs.Trie.{Trie, Tries, by, nothing, among, find}
 use Rattle.basic_toml_plain.specs.Tries.{by_keys}
 use Rattle.basic_toml_grow.specs.Item.{trie_before}
 use Rattle.basic_toml_value.specs.Growth.{with_value, values_of, FindsOrAdds}
 use Rattle.basic_toml_value.specs.declared.pairs.growth.Place.{Place}
+use Rattle.basic_toml_grow.proofs.LatestInATrie.{mapped_twice, mapped_same}
 
 -- keys with their tries
 abbrev Pairs : Type 0
@@ -33,30 +34,18 @@ differs k l ks absent =
     (bytes_eq_other l k both.0, both.1)
 
 -- a change at a key is one at its first position
-among_changed : (ps : Pairs) (i : ℕ) (k : List ℕ) (t u : Trie) (g : Trie → Option Trie)
-    → slice_get (keys_of ps) i ≡ Some k → is_among (take i (keys_of ps)) k ≡ false
-    → slice_get (values_of ps) i ≡ Some t → g t ≡ Some u
-    → among (steps.key k) g (by_keys ps) ≡ Some (by_keys (with_value ps i u))
-among_changed [] i k t u g at first there changed = absurd (cc)
-among_changed (p ∷ ps) zero k t u g at first there changed =
+among_changed : (ps : Pairs) (i : ℕ) (k : List ℕ) (t : Trie) (g : Trie → Option Trie)
+    → slice_get (keys_of ps) i ≡ Some k → is_among (take i (keys_of ps)) k ≡ false → slice_get (values_of ps) i ≡ Some t
+    → among (steps.key k) g (by_keys ps) ≡ option_map (λ u. by_keys (with_value ps i u)) (g t)
+among_changed [] i k t g at first there = absurd (cc)
+among_changed (p ∷ ps) zero k t g at first there =
     let same : p.0 ≡ k = cc in
     let here : p.1 ≡ t = cc in
-    rw (same, bytes_eq-same k, here, changed) refl
-among_changed (p ∷ ps) (suc i) k t u g at first there changed =
+    rw (same, bytes_eq-same k, here) refl
+among_changed (p ∷ ps) (suc i) k t g at first there =
     let other = differs k p.0 (take i (keys_of ps)) first in
-    rw (other.0, among_changed ps i k t u g at other.1 there changed) refl
-
-among_refused : (ps : Pairs) (i : ℕ) (k : List ℕ) (t : Trie) (g : Trie → Option Trie)
-    → slice_get (keys_of ps) i ≡ Some k → is_among (take i (keys_of ps)) k ≡ false
-    → slice_get (values_of ps) i ≡ Some t → g t ≡ None → among (steps.key k) g (by_keys ps) ≡ None
-among_refused [] i k t g at first there refused = absurd (cc)
-among_refused (p ∷ ps) zero k t g at first there refused =
-    let same : p.0 ≡ k = cc in
-    let here : p.1 ≡ t = cc in
-    rw (same, bytes_eq-same k, here, refused) refl
-among_refused (p ∷ ps) (suc i) k t g at first there refused =
-    let other = differs k p.0 (take i (keys_of ps)) first in
-    rw (other.0, among_refused ps i k t g at other.1 there refused) refl
+    rw (other.0, among_changed ps i k t g at other.1 there)
+    (mapped_twice (λ ts. by (steps.key p.0) p.1 ts) (λ u. by_keys (with_value ps i u)) (g t))
 
 found_first : (ps : Pairs) (i : ℕ) (k : List ℕ) (t : Trie)
     → slice_get (keys_of ps) i ≡ Some k → is_among (take i (keys_of ps)) k ≡ false
@@ -71,19 +60,13 @@ found_first (p ∷ ps) (suc i) k t at first there =
     rw (other.0) (found_first ps i k t at other.1 there)
 
 -- a change at a key that is none of these puts it last
-among_added : (ps : Pairs) (k : List ℕ) (u : Trie) (g : Trie → Option Trie) → has_key ps k ≡ false
-    → g nothing ≡ Some u → among (steps.key k) g (by_keys ps) ≡ Some (by_keys (ps ++ (k, u) ∷ []))
-among_added [] k u g absent changed = rw changed refl
-among_added (p ∷ ps) k u g absent changed =
+among_added : (ps : Pairs) (k : List ℕ) (g : Trie → Option Trie) → has_key ps k ≡ false
+    → among (steps.key k) g (by_keys ps) ≡ option_map (λ u. by_keys (ps ++ (k, u) ∷ [])) (g nothing)
+among_added [] k g absent = refl
+among_added (p ∷ ps) k g absent =
     let other = differs k p.0 (keys_of ps) absent in
-    rw (other.0, among_added ps k u g other.1 changed) refl
-
-none_added : (ps : Pairs) (k : List ℕ) (g : Trie → Option Trie) → has_key ps k ≡ false → g nothing ≡ None
-    → among (steps.key k) g (by_keys ps) ≡ None
-none_added [] k g absent refused = rw refused refl
-none_added (p ∷ ps) k g absent refused =
-    let other = differs k p.0 (keys_of ps) absent in
-    rw (other.0, none_added ps k g other.1 refused) refl
+    rw (other.0, among_added ps k g other.1)
+    (mapped_twice (λ ts. by (steps.key p.0) p.1 ts) (λ u. by_keys (ps ++ (k, u) ∷ [])) (g nothing))
 
 find_none : (ps : Pairs) (k : List ℕ) → has_key ps k ≡ false → find (steps.key k) (by_keys ps) ≡ nothing
 find_none [] k absent = refl
@@ -130,7 +113,7 @@ module _ {V : Type 0} (f : V → Trie) where
   value_mapped (p ∷ ps) zero v at = let same : p.1 ≡ v = cc in rw same refl
   value_mapped (p ∷ ps) (suc i) v at = value_mapped ps i v at
 
-  with_mapped : (ps : List (List ℕ × V)) (i : ℕ) (v : V)
+  pub with_mapped : (ps : List (List ℕ × V)) (i : ℕ) (v : V)
       → tries_of (with_value ps i v) ≡ with_value (tries_of ps) i (f v)
   unfolding tries_of
   with_mapped [] i v = refl
@@ -169,37 +152,27 @@ module _ {V : Type 0} (f : V → Trie) where
     unfolding tries_of
     one_more child = map-append (λ p. (p.0, f p.1)) old ((k, child) ∷ [])
 
-    -- a change there gives the keys with what it gives
-    pub change_put : (g : Trie → Option Trie) (child : V) → g (trie_before p.is_new (f there)) ≡ Some (f child)
+    -- a change there
+    pub change_made : (g : Trie → Option Trie)
         → among (steps.key k) g (by_keys (tries_of old))
-        ≡ Some (by_keys (tries_of (with_value new p.position child)))
-    change_put g child changed = go (has_key old k) refl e.entered.pairs
+        ≡ option_map (λ u. by_keys (with_value (tries_of new) p.position u)) (g (trie_before p.is_new (f there)))
+    change_made g = go (has_key old k) refl e.entered.pairs
       where
-        go : (b : Bool) → has_key old k ≡ b → new ≡ (if b then old else old ++ (k, e.there) ∷ [])
-            → among (steps.key k) g (by_keys (tries_of old))
-            ≡ Some (by_keys (tries_of (with_value new p.position child)))
-        go true is pairs =
-            sym (ap (λ ps. among (steps.key k) g (by_keys (tries_of ps))) pairs)
-            ∙ among_changed (tries_of new) p.position k (f there) (f child) g at_mapped first_mapped
-            (value_mapped new p.position there stands) (sym (ap g (before_is true is)) ∙ changed)
-            ∙ ap (λ ps. Some (by_keys ps)) (sym (with_mapped new p.position child))
-        go false is pairs =
-            among_added (tries_of old) k (f child) g (absent_mapped is) (sym (ap g (before_is false is)) ∙ changed)
-            ∙ ap (λ ps. Some (by_keys ps))
-            (sym (ap tries_of (ap (λ ps. with_value ps p.position child) pairs
-            ∙ with_last old p.position k e.there child is (sym (ap (λ ps. slice_get (keys_of ps) p.position) pairs)
-            ∙ e.entered.at)) ∙ one_more child))
+        put : Trie → Tries
+        put u = by_keys (with_value (tries_of new) p.position u)
 
-    -- a change there that is refused
-    pub change_refused : (g : Trie → Option Trie) → g (trie_before p.is_new (f there)) ≡ None
-        → among (steps.key k) g (by_keys (tries_of old)) ≡ None
-    change_refused g refused = go (has_key old k) refl e.entered.pairs
-      where
         go : (b : Bool) → has_key old k ≡ b → new ≡ (if b then old else old ++ (k, e.there) ∷ [])
-            → among (steps.key k) g (by_keys (tries_of old)) ≡ None
+            → among (steps.key k) g (by_keys (tries_of old)) ≡ option_map put (g (trie_before p.is_new (f there)))
         go true is pairs =
             sym (ap (λ ps. among (steps.key k) g (by_keys (tries_of ps))) pairs)
-            ∙ among_refused (tries_of new) p.position k (f there) g at_mapped first_mapped
-            (value_mapped new p.position there stands) (sym (ap g (before_is true is)) ∙ refused)
+            ∙ among_changed (tries_of new) p.position k (f there) g at_mapped first_mapped
+            (value_mapped new p.position there stands)
+            ∙ ap (λ t. option_map put (g t)) (sym (before_is true is))
         go false is pairs =
-            none_added (tries_of old) k g (absent_mapped is) (sym (ap g (before_is false is)) ∙ refused)
+            let more = ap tries_of pairs ∙ one_more e.there in
+            let at = sym (ap (λ ps. slice_get (keys_of ps) p.position) more) ∙ at_mapped in
+            among_added (tries_of old) k g (absent_mapped is)
+            ∙ mapped_same (λ u. by_keys (tries_of old ++ (k, u) ∷ [])) put
+            (λ u. ap by_keys (sym (ap (λ ps. with_value ps p.position u) more
+            ∙ with_last (tries_of old) p.position k (f e.there) u (absent_mapped is) at))) (g nothing)
+            ∙ ap (λ t. option_map put (g t)) (sym (before_is false is))

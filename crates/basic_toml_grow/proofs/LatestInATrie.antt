@@ -1,7 +1,7 @@
 -- The tables of an array of tables in its trie: what is at the latest number, and at the next one.
 use Rattle.std.proofs.Common.{◌≡◌, ℕ, suc, ◌+◌, ◌<◌, List, [], ◌∷◌, ◌++◌, length, Option, Some, None, true}
 use Rattle.std.proofs.Common.{false}
-use Rattle.std.proofs.Common.{refl, arith, nat_eq, option_map}
+use Rattle.std.proofs.Common.{refl, ap, arith, nat_eq, option_map}
 use Rattle.basic_toml_grammar.specs.Steps.{number}
 use Rattle.basic_toml_grammar.specs.Trie.{Trie, by, nothing, among, find}
 use Rattle.basic_toml_grow.specs.Item.{by_numbers}
@@ -17,6 +17,11 @@ module _ {A B C : Type 0} where
       → option_map f (option_map h x) ≡ option_map (λ a. f (h a)) x
   mapped_twice f h None = refl
   mapped_twice f h (Some a) = refl
+
+pub mapped_same : {A B : Type 0} (f g : A → B) → ((a : A) → f a ≡ g a) → (x : Option A)
+    → option_map f x ≡ option_map g x
+mapped_same f g same None = refl
+mapped_same f g same (Some a) = ap Some (same a)
 
 -- on into the latest of some tables
 pub among_latest : (k n : ℕ) (before : List Trie) (t : Trie) (g : Trie → Option Trie) → n ≡ k + length before
@@ -40,3 +45,7 @@ among_next k n [] g e = let same : n ≡ k = omega arith in rw same refl
 among_next k n (b ∷ before) g e =
     rw (nat_eq-other k n (omega arith), among_next (suc k) n before g (omega arith))
     (mapped_twice (λ ts. by (number k) b ts) (λ u. by_numbers (suc k) (before ++ u ∷ [])) (g nothing))
+
+pub find_next : (k n : ℕ) (before : List Trie) → n ≡ k + length before → find (number n) (by_numbers k before) ≡ nothing
+find_next k n [] e = refl
+find_next k n (b ∷ before) e = rw (nat_eq-other k n (omega arith)) (find_next (suc k) n before (omega arith))

@@ -3,7 +3,7 @@ use Rattle.std.proofs.Common.{rules, ◌≡◌, ℕ, suc, ◌+◌, Bool, true, f
 use Rattle.std.proofs.Common.{Option, Some, None, length, take, map, Box, Vec, Global, subst, arith}
 use Rattle.std.proofs.Common.{cond}
 use Rattle.std.specs.Option.{option_or}
-use Rattle.std.proofs.lemmas.List.{length-map}
+use Rattle.std.proofs.lemmas.List.{append-nil, append_assoc, length-append, length-map}
 use Rattle.std.specs.List.{slice_get}
 use Rattle.basic_toml_value.specs.Data.{Data}
 use Rattle.basic_toml_grammar.specs.Sections.{Key, KeyTexts, texts}
@@ -23,7 +23,7 @@ use Rattle.basic_toml_grow.specs.declared.item.Item as items
 use Rattle.basic_toml_grow.specs.declared.item.Child.{Child, out-Child}
 use Rattle.basic_toml_grow.specs.declared.item.Item.{the_lemmas}
 use Rattle.basic_toml_grow.specs.declared.item.Item.TheOpen.{Item-F, Table-F}
-use Rattle.basic_toml_grow.specs.declared.item.Item.TheViews.{roll-Item, roll-out-Item, out-roll-Table}
+use Rattle.basic_toml_grow.specs.declared.item.Item.TheViews.{out-roll-Table}
 use Rattle.basic_toml_grow.specs.declared.item.Table.{Table, out-Table, roll-Table}
 use Rattle.basic_toml_grow.specs.declared.met.Met.{Met}
 use Rattle.basic_toml_grow.specs.declared.met.Met.TheVariants as mets
@@ -34,15 +34,8 @@ use Rattle.basic_toml_value.specs.declared.pairs.growth.Place.{Place}
 use Rattle.basic_toml_grow.specs.RowStops.{key_at, StopsAtKey, TellsStop, TellsLast, TellsRow, TellsExtended}
 use Rattle.basic_toml_grow.proofs.KeysInATrie.{tries_of, stood_there}
 use Rattle.basic_toml_grow.proofs.ItemTries.{child_item_trie, table_entries_trie}
+use Rattle.basic_toml_grow.proofs.ItemsStand.{shape}
 use Rattle.basic_toml_grow.proofs.TablesOpened.{section_item_trie, sections_trie, table_item_trie, tables_trie}
-
-none_after : {A : Type 0} (xs : List A) → xs ++ [] ≡ xs
-none_after [] = refl
-none_after (x ∷ xs) = ap (λ ys. x ∷ ys) (none_after xs)
-
-one_before : {A : Type 0} (xs : List A) (y : A) (ys : List A) → (xs ++ y ∷ []) ++ ys ≡ xs ++ y ∷ ys
-one_before [] y ys = refl
-one_before (x ∷ xs) y ys = ap (λ zs. x ∷ zs) (one_before xs y ys)
 
 -- what stops one thing stops another
 pub told_on : (before : KeyTexts) (keys : List Key) (k : Key) (o p : Outcome Trie) (met : Met)
@@ -63,14 +56,14 @@ told_further : (before : KeyTexts) (first : Key) (keys : List Key) (k : Key) (o 
     → TellsStop (before ++ first.text ∷ []) keys k o met → TellsStop before (first ∷ keys) k o met
 told_further before first keys k o mets.Memory told = tt
 told_further before first keys k o mets.Row told =
-    told ∙ ap (λ b. stops (at_row (take 1 b) k)) (one_before before first.text (texts keys))
+    told ∙ ap (λ b. stops (at_row (take 1 b) k)) (append_assoc before (first.text ∷ []) (texts keys))
 told_further before first keys k o (mets.Header left) told = record {
   front = first ∷ told.front;
   there = told.there;
   rest = told.rest;
   parts = ap (λ ks. first ∷ ks) told.parts;
   count = told.count;
-  stop = told.stop ∙ ap (λ b. stops (at_row b told.there)) (one_before before first.text (texts told.front));
+  stop = told.stop ∙ ap (λ b. stops (at_row b told.there)) (append_assoc before (first.text ∷ []) (texts told.front));
 }
 
 -- a header stands at the last key
@@ -83,14 +76,8 @@ stands_last before k d s v ts is = record {
   rest = [];
   parts = refl;
   count = refl;
-  stop = ap stops (is ∙ ap (λ b. at_row b k) (sym (none_after before)));
+  stop = ap stops (is ∙ ap (λ b. at_row b k) (sym (append-nil before)));
 }
-
-pub tables_met : (c : Child) (s : ℕ) (v : Option Data) (ts : Tries)
-    → child_trie c ≡ trie (Some (standings.array s)) v ts → TellsLast (child_trie c) (mets.Header 1)
-tables_met c s v ts is = λ before k d.
-    subst (λ (t : Trie). StopsAtKey before (k ∷ []) 1 (try_here (valued d) (last_stop before k) t)) (sym is)
-    (stands_last before k d (standings.array s) v ts refl)
 
 made_last : (before : KeyTexts) (k : Key) (p n d : Bool) → (p || n) ≡ true
     → last_stop before k (Some (standings.table p n d)) ≡ at_row before k
@@ -102,8 +89,7 @@ pub made_met : (c : Child) (t : Box Table Global) → (out-Child c).item ≡ ite
     → ((out-Table t.value).passed || (out-Table t.value).named) ≡ true → TellsLast (child_trie c) (mets.Header 1)
 made_met c t is made = λ before k d.
     let o = out-Table t.value in
-    subst (λ (t : Trie). StopsAtKey before (k ∷ []) 1 (try_here (valued d) (last_stop before k) t))
-    (sym (child_item_trie c ∙ ap item_trie is ∙ table_item_trie t ∙ table_entries_trie t.value))
+    rw (child_item_trie c, is, table_item_trie t, table_entries_trie t.value)
     (stands_last before k d (standings.table o.passed o.named o.dotted) None
     (by_keys (tries_of child_trie o.entries)) (made_last before k o.passed o.named o.dotted made))
 
@@ -170,10 +156,6 @@ extended_on ks last d t u met is told = λ before first offset.
     (try_put_row (before ++ first.text ∷ []) (ks ++ key_at offset last ∷ []) d u) met
     (told (before ++ first.text ∷ []) offset))
 
-length_last : (ks : List Key) (k : Key) → length (ks ++ k ∷ []) ≡ suc (length ks)
-length_last [] k = refl
-length_last (l ∷ ks) k = ap suc (length_last ks k)
-
 stopped_here : (before : KeyTexts) (first : Key) (t : Trie) → mark_here dotted t ≡ None
     → try_here dotted (λ m. at_row before first) t ≡ stops (at_row before first)
 stopped_here before first (trie s v ts) none = go (standings.fits dotted s) none
@@ -190,7 +172,7 @@ pub extended_refused : (parents : List code_keys.Key) (last : List ℕ) (d : Dat
     → left ≡ length parents + 2 → mark_here dotted t ≡ None → TellsExtended (map key_of parents) last d t
     (mets.Header left)
 extended_refused parents last d t left count none = λ before first offset.
-    let more = length_last (map key_of parents) (key_at offset last) in
+    let more = length-append (map key_of parents) (key_at offset last ∷ []) in
     let lines = length-map parents key_of in record {
       front = [];
       there = first;
@@ -199,7 +181,7 @@ extended_refused parents last d t left count none = λ before first offset.
       count = omega arith;
       stop = ap (λ o. and_on o (λ t. try_put_row (before ++ first.text ∷ [])
           (map key_of parents ++ key_at offset last ∷ []) d t)) (stopped_here before first t none)
-          ∙ ap (λ b. stops (at_row b first)) (sym (none_after before));
+          ∙ ap (λ b. stops (at_row b first)) (sym (append-nil before));
     }
 
 -- a table that dots extend
@@ -233,30 +215,12 @@ extended_before false ks last d t met fresh told = told
 pub dotted_table : (c : Child) (t : Box Table Global) (e : Table) → (out-Child c).item ≡ items.Table t → e ≡ t.value
     → (out-Table e).named ≡ false → mark_here dotted (child_trie c) ≡ Some (table_trie (roll-Table (dotted_fields e)))
 dotted_table c t e is same named =
-    ap (mark_here dotted)
-    (child_item_trie c ∙ ap item_trie is ∙ table_item_trie t ∙ ap table_trie (sym same) ∙ table_entries_trie e)
-    ∙ go (out-Table e).named named
-    ∙ ap Some (sym (dotted_trie e))
-  where
-    go : (n : Bool) → n ≡ false
-        → mark_here dotted (trie (Some (standings.table (out-Table e).passed n (out-Table e).dotted)) None
-        (by_keys (tries_of child_trie (out-Table e).entries)))
-        ≡ Some (trie (Some (standings.table (out-Table e).passed n true)) None
-        (by_keys (tries_of child_trie (out-Table e).entries)))
-    go false clear = refl
-    go true clear = absurd (cc)
+    rw (child_item_trie c, is, table_item_trie t, ← same, table_entries_trie e, dotted_trie e, named) refl
 
 pub named_refuses : (c : Child) (t : Box Table Global) → (out-Child c).item ≡ items.Table t
     → (out-Table t.value).named ≡ true → mark_here dotted (child_trie c) ≡ None
 named_refuses c t is named =
-    ap (mark_here dotted) (child_item_trie c ∙ ap item_trie is ∙ table_item_trie t ∙ table_entries_trie t.value)
-    ∙ go (out-Table t.value).named named
-  where
-    go : (n : Bool) → n ≡ true
-        → mark_here dotted (trie (Some (standings.table (out-Table t.value).passed n (out-Table t.value).dotted)) None
-        (by_keys (tries_of child_trie (out-Table t.value).entries))) ≡ None
-    go true set = refl
-    go false set = absurd (cc)
+    rw (child_item_trie c, is, table_item_trie t, table_entries_trie t.value, named) refl
 
 -- what is no table refuses dots
 pub other_refuses : (c : Child) → ((t : Box Table Global) → (out-Child c).item ≡ items.Table t → ⊥) → mark_here dotted (child_trie c) ≡ None
@@ -265,55 +229,26 @@ other_refuses c no_table = ap (mark_here dotted) (child_item_trie c) ∙ go (ite
     i : items.Item
     i = (out-Child c).item
 
-    of : (x : Item-F items.Item Child Table) → items.out-Item i ≡ x → i ≡ roll-Item x
-    of x e = sym (roll-out-Item i) ∙ ap roll-Item e
-
     go : (x : Item-F items.Item Child Table) → items.out-Item i ≡ x → mark_here dotted (item_trie i) ≡ None
-    go (Item-F.Table t) e = absurd (no_table t (of (Item-F.Table t) e ∙ search (rules, the_lemmas)))
-    go (Item-F.Integer z) e = ap (λ i. mark_here dotted (item_trie i)) (of (Item-F.Integer z) e)
-        ∙ search (rules, the_lemmas)
-    go (Item-F.Float z) e = ap (λ i. mark_here dotted (item_trie i)) (of (Item-F.Float z) e)
-        ∙ search (rules, the_lemmas)
-    go Item-F.True e = ap (λ i. mark_here dotted (item_trie i)) (of Item-F.True e)
-        ∙ search (rules, the_lemmas)
-    go Item-F.False e = ap (λ i. mark_here dotted (item_trie i)) (of Item-F.False e)
-        ∙ search (rules, the_lemmas)
-    go (Item-F.String z) e = ap (λ i. mark_here dotted (item_trie i)) (of (Item-F.String z) e)
-        ∙ search (rules, the_lemmas)
-    go (Item-F.Escaped z) e = ap (λ i. mark_here dotted (item_trie i)) (of (Item-F.Escaped z) e)
-        ∙ search (rules, the_lemmas)
-    go (Item-F.Array z) e = ap (λ i. mark_here dotted (item_trie i)) (of (Item-F.Array z) e)
-        ∙ search (rules, the_lemmas)
-    go (Item-F.Plain z) e = ap (λ i. mark_here dotted (item_trie i)) (of (Item-F.Plain z) e)
-        ∙ search (rules, the_lemmas)
-    go (Item-F.Rows z) e = ap (λ i. mark_here dotted (item_trie i)) (of (Item-F.Rows z) e)
-        ∙ search (rules, the_lemmas)
-    go (Item-F.Inline z) e = ap (λ i. mark_here dotted (item_trie i)) (of (Item-F.Inline z) e)
-        ∙ search (rules, the_lemmas)
-    go (Item-F.Section rs) e = ap (λ i. mark_here dotted (item_trie i)) (of (Item-F.Section rs) e)
-        ∙ search (rules, the_lemmas)
-    go (Item-F.Sections b) e = ap (λ i. mark_here dotted (item_trie i)) (of (Item-F.Sections b) e)
-        ∙ search (rules, the_lemmas)
-    go (Item-F.Tables b) e = ap (λ i. mark_here dotted (item_trie i)) (of (Item-F.Tables b) e)
-        ∙ search (rules, the_lemmas)
+    go (Item-F.Table t) e = absurd (no_table t (shape i (Item-F.Table t) e ∙ search (rules, the_lemmas)))
+    go x e = ap (λ i. mark_here dotted (item_trie i)) (shape i x e) ∙ search (rules, the_lemmas)
 
 pub tables_stand : (c : Child) (b : Box (Vec Table Global × Table) Global)
     → (out-Child c).item ≡ items.Tables b → TellsLast (child_trie c) (mets.Header 1)
-tables_stand c b is =
-    tables_met c (suc (length (map table_trie b.value.0.items))) None
-    (by_numbers 0 (map table_trie b.value.0.items ++ table_trie b.value.1 ∷ []))
-    (child_item_trie c ∙ ap item_trie is ∙ tables_trie b)
+tables_stand c b is = λ before k d.
+    rw (child_item_trie c, is, tables_trie b)
+    (stands_last before k d (standings.array (suc (length (map table_trie b.value.0.items)))) None
+    (by_numbers 0 (map table_trie b.value.0.items ++ table_trie b.value.1 ∷ [])) refl)
 
 pub sections_stand : (c : Child) (b : Box SectionTables Global) → (out-Child c).item ≡ items.Sections b
     → TellsLast (child_trie c) (mets.Header 1)
-sections_stand c b is =
-    let before = map (λ t. rows_trie t.1) b.value.0 in
-    tables_met c (suc (length before)) None (by_numbers 0 (before ++ rows_trie b.value.1.1 ∷ []))
-    (child_item_trie c ∙ ap item_trie is ∙ sections_trie b)
+sections_stand c b is = λ before k d.
+    let tries = map (λ t. rows_trie t.1) b.value.0 in
+    rw (child_item_trie c, is, sections_trie b) (stands_last before k d (standings.array (suc (length tries))) None
+    (by_numbers 0 (tries ++ rows_trie b.value.1.1 ∷ [])) refl)
 
 pub section_stands : (c : Child) (rows : List Row) → (out-Child c).item ≡ items.Section rows
     → TellsLast (child_trie c) (mets.Header 1)
 section_stands c rows is = λ before k d.
-    subst (λ (t : Trie). StopsAtKey before (k ∷ []) 1 (try_here (valued d) (last_stop before k) t))
-    (sym (child_item_trie c ∙ ap item_trie is ∙ section_item_trie rows))
+    rw (child_item_trie c, is, section_item_trie rows)
     (stands_last before k d (standings.table false true false) None (by_keys (map row_trie rows)) refl)

@@ -77,10 +77,6 @@ mutual
 
   pub value_free : (l : ℕ) (v : Raw) → value_keyed v ≡ true → value_clashes v ≡ false
       → value_level l v ≤ nesting_limit → value_obstacle l v ≡ None
-  value_free l (Raw.integer z) k c within = refl
-  value_free l (Raw.float t) k c within = refl
-  value_free l (Raw.boolean b) k c within = refl
-  value_free l (Raw.string t copied) k c within = refl
   value_free l (Raw.array es) k c within =
       two_free (above (l + 1)) (elements_obstacle (l + 1) es) (low (l + 1) (omega arith))
       (elements_free (l + 1) es k c (omega arith))
@@ -88,6 +84,7 @@ mutual
       let p = rows_put rs None (keyed_rows rs k) c in
       two_free (above (l + 1)) (rows_obstacle (l + 1) rs nothing) (low (l + 1) (omega arith))
       (rows_free (l + 1) rs nothing p.0 k c (omega arith) p.1)
+  value_free l _ k c within = refl
 
   pub elements_free : (l : ℕ) (es : Elements) → elements_keyed es ≡ true → elements_clash es ≡ false
       → elements_level l es ≤ nesting_limit → elements_obstacle l es ≡ None

@@ -59,16 +59,17 @@ behind_tells : (o : Outcome Trie) (f : Trie → Option Obstacle) (l : ℕ) → (
 behind_tells (stops x) f l more = tt
 behind_tells (goes_on t) f l more = more t
 
--- a mark changes nothing below
-mark_tells : (k : MarkKind) (name : Option Standing → Stop) (s : Option Standing) (ts : Tries)
-    (f : Trie → Option Obstacle) (v : Option Data) (l : ℕ)
-    → ((s : Option Standing) (v : Option Data) → Tells (f (trie s v ts)) l)
-    → Tells (and_behind (try_here k name (trie s v ts)) f) l
-mark_tells k name s ts f v l more = go (fits k s)
+-- a mark changes nothing below, and its level is no higher than that of what is behind it
+mark_tells : (k : MarkKind) (name : Option Standing → Stop) (s : Option Standing) (v : Option Data) (ts : Tries)
+    (f : Trie → Option Obstacle) (l m : ℕ) → l ≤ m
+    → ((s : Option Standing) (v : Option Data) → Tells (f (trie s v ts)) m)
+    → Tells (option_or (above l) (and_behind (try_here k name (trie s v ts)) f)) m
+mark_tells k name s v ts f l m low more =
+    lower (above l) (and_behind (try_here k name (trie s v ts)) f) l m low (level_here l) (go (fits k s))
   where
     go : (b : Bool)
         → Tells (and_behind (cond b (goes_on (trie (Some (taken k s)) (option_or v (value_of k)) ts))
-        (stops (name s))) f) l
+        (stops (name s))) f) m
     go true = more (Some (taken k s)) (option_or v (value_of k))
     go false = tt
 
@@ -86,16 +87,13 @@ mutual
       (behind_tells o (λ t. rows_obstacle l rows t) (rows_level l rows) (λ t. rows_tell l rows t)))
 
   value_tells : (l : ℕ) (v : Raw) → Tells (value_obstacle l v) (value_level l v)
-  value_tells l (Raw.integer z) = omega arith
-  value_tells l (Raw.float t) = omega arith
-  value_tells l (Raw.boolean b) = omega arith
-  value_tells l (Raw.string t copied) = omega arith
   value_tells l (Raw.array es) =
       either (above (l + 1)) (elements_obstacle (l + 1) es) (l + 1) (elements_level (l + 1) es) (level_here (l + 1))
       (elements_tell (l + 1) es)
   value_tells l (Raw.inline rs) =
       either (above (l + 1)) (rows_obstacle (l + 1) rs nothing) (l + 1) (rows_level (l + 1) rs) (level_here (l + 1))
       (rows_tell (l + 1) rs nothing)
+  value_tells l _ = omega arith
 
   elements_tell : (l : ℕ) (es : Elements) → Tells (elements_obstacle l es) (elements_level l es)
   elements_tell l no_elements = omega arith
@@ -122,41 +120,30 @@ on_tells : (f : ℕ → Trie → Option Obstacle) (g : Trie → ℕ) (rows : Row
     → Tells (obstacle_on f left l n t) (highest m rows)
 on_tells f g rows left l m zero t more same = more l m t same
 on_tells f g rows left l m (suc n) (trie s v ts) more same =
-    let h : Trie → Option Obstacle = λ u. f (l + 1) (below (number n) u) in
-    lower (above l) (and_behind (try_here by_latest (header_stop by_latest left) (trie s v ts)) h) l (highest m rows)
-    (omega arith) (level_here l)
-    (mark_tells by_latest (header_stop by_latest left) s ts h v (highest m rows)
-    (λ s v. more (l + 1) m (find (number n) ts) (omega arith)))
+    mark_tells by_latest (header_stop by_latest left) s v ts (λ u. f (l + 1) (below (number n) u)) l (highest m rows)
+    (omega arith) (λ s v. more (l + 1) m (find (number n) ts) (omega arith))
 
 keys_tell : (a : Bool) (rows : Rows) (keys : KeyTexts) (l m : ℕ) (t : Trie) → l + steps_to a keys t ≡ m
     → Tells (keys_obstacle a rows keys l t) (highest m rows)
 keys_tell a rows [] l m t same = table_tells l m rows t (omega arith)
 keys_tell true rows (k ∷ []) l m (trie s v ts) same =
-    let f : Trie → Option Obstacle = λ u. element_obstacle (l + 1) rows (below (key k) u) in
-    lower (above l) (and_behind (try_here passed (header_stop passed 1) (trie s v ts)) f) l (highest m rows)
-    (omega arith) (level_here l)
-    (mark_tells passed (header_stop passed 1) s ts f v (highest m rows)
-    (λ s v. element_tells (l + 1) m rows (find (key k) ts) (omega arith)))
+    mark_tells passed (header_stop passed 1) s v ts (λ u. element_obstacle (l + 1) rows (below (key k) u)) l
+    (highest m rows) (omega arith) (λ s v. element_tells (l + 1) m rows (find (key k) ts) (omega arith))
 keys_tell false rows (k ∷ []) l m (trie s v ts) same =
     let on : Trie → Option Obstacle = λ t. obstacle_on (λ l t. table_obstacle l rows t) 0 (l + 1) (count t) t in
-    let f : Trie → Option Obstacle = λ u. on (below (key k) u) in
     let here = find (key k) ts in
-    lower (above l) (and_behind (try_here passed (header_stop passed 1) (trie s v ts)) f) l (highest m rows)
-    (omega arith) (level_here l)
-    (mark_tells passed (header_stop passed 1) s ts f v (highest m rows)
+    mark_tells passed (header_stop passed 1) s v ts (λ u. on (below (key k) u)) l (highest m rows) (omega arith)
     (λ s v. on_tells (λ l t. table_obstacle l rows t) (λ t. 0) rows 0 (l + 1) m (count here) here
-    (λ l m t same. table_tells l m rows t (omega arith)) (omega arith)))
+    (λ l m t same. table_tells l m rows t (omega arith)) (omega arith))
 keys_tell a rows (k ∷ j ∷ keys) l m (trie s v ts) same =
     let left = length (j ∷ keys) in
     let on : Trie → Option Obstacle =
     λ t. obstacle_on (λ l t. keys_obstacle a rows (j ∷ keys) l t) left (l + 1) (count t) t in
-    let f : Trie → Option Obstacle = λ u. on (below (key k) u) in
     let here = find (key k) ts in
-    lower (above l) (and_behind (try_here passed (header_stop passed (length (k ∷ j ∷ keys))) (trie s v ts)) f) l
-    (highest m rows) (omega arith) (level_here l)
-    (mark_tells passed (header_stop passed (length (k ∷ j ∷ keys))) s ts f v (highest m rows)
+    mark_tells passed (header_stop passed (length (k ∷ j ∷ keys))) s v ts (λ u. on (below (key k) u)) l
+    (highest m rows) (omega arith)
     (λ s v. on_tells (λ l t. keys_obstacle a rows (j ∷ keys) l t) (λ t. steps_to a (j ∷ keys) t) rows left (l + 1) m
-    (count here) here (λ l m t same. keys_tell a rows (j ∷ keys) l m t same) (omega arith)))
+    (count here) here (λ l m t same. keys_tell a rows (j ∷ keys) l m t same) (omega arith))
 
 -- a section that meets a level first is above the limit
 pub met_deep : (s : Section) (t : Trie) → first_obstacle s t ≡ Some too_deep → nesting_limit < section_level_in t s

@@ -96,14 +96,11 @@ mutual
       (behind_tells o (λ t. rows_obstacle l rows t) (λ t. try_put_rows rows t) (λ t. rows_tell l rows t)))
 
   value_tells : (l : ℕ) (v : Raw) → Tells (value_obstacle l v) (try_put_value v)
-  value_tells l (Raw.integer z) = (nothing, refl)
-  value_tells l (Raw.float t) = (nothing, refl)
-  value_tells l (Raw.boolean b) = (nothing, refl)
-  value_tells l (Raw.string t copied) = (nothing, refl)
   value_tells l (Raw.array es) =
       level_tells (l + 1) (elements_obstacle (l + 1) es) (try_put_elements es) (elements_tell (l + 1) es)
   value_tells l (Raw.inline rs) =
       level_tells (l + 1) (rows_obstacle (l + 1) rs nothing) (try_put_rows rs nothing) (rows_tell (l + 1) rs nothing)
+  value_tells l _ = (nothing, refl)
 
   elements_tell : (l : ℕ) (es : Elements) → Tells (elements_obstacle l es) (try_put_elements es)
   elements_tell l no_elements = (nothing, refl)
@@ -117,60 +114,46 @@ table_tells l rows t =
     level_tells l (and_behind o (λ t. rows_obstacle l rows t)) (and_on o (λ t. try_put_rows rows t))
     (behind_tells o (λ t. rows_obstacle l rows t) (λ t. try_put_rows rows t) (λ t. rows_tell l rows t))
 
+-- a mark here, and a step
+further : (l : ℕ) (o : Outcome Trie) (s : Step) (f : Trie → Option Obstacle) (g : Trie → Outcome Trie)
+    → ((t : Trie) → Tells (f t) (g t))
+    → Tells (option_or (above l) (and_behind o (λ u. f (below s u)))) (and_on o (λ u. try_step s g u))
+further l o s f g more =
+    level_tells l (and_behind o (λ u. f (below s u))) (and_on o (λ u. try_step s g u))
+    (behind_tells o (λ u. f (below s u)) (λ u. try_step s g u)
+    (λ u. step_tells s g u (f (below s u)) (more (below s u))))
+
 element_tells : (l : ℕ) (rows : Rows) (t : Trie) → Tells (element_obstacle l rows t) (try_put_element rows t)
 element_tells l rows t =
-    let o = try_here added (header_stop added 0) t in
-    let n = number (count t) in
-    let f : Trie → Option Obstacle = λ u. table_obstacle (l + 1) rows (below n u) in
-    let g : Trie → Outcome Trie = λ u. try_step n (λ t. try_put_table rows t) u in
-    level_tells l (and_behind o f) (and_on o g)
-    (behind_tells o f g (λ u. step_tells n (λ t. try_put_table rows t) u (table_obstacle (l + 1) rows (below n u))
-    (table_tells (l + 1) rows (below n u))))
+    further l (try_here added (header_stop added 0) t) (number (count t)) (λ t. table_obstacle (l + 1) rows t)
+    (λ t. try_put_table rows t) (λ t. table_tells (l + 1) rows t)
 
 on_tells : (f : ℕ → Trie → Option Obstacle) (g : Trie → Outcome Trie) (left l n : ℕ) (t : Trie)
     → ((l : ℕ) (t : Trie) → Tells (f l t) (g t)) → Tells (obstacle_on f left l n t) (try_go_on g left n t)
 on_tells f g left l zero t more = more l t
 on_tells f g left l (suc n) t more =
-    let o = try_here by_latest (header_stop by_latest left) t in
-    let h : Trie → Option Obstacle = λ u. f (l + 1) (below (number n) u) in
-    let k : Trie → Outcome Trie = λ u. try_step (number n) g u in
-    level_tells l (and_behind o h) (and_on o k)
-    (behind_tells o h k (λ u. step_tells (number n) g u (f (l + 1) (below (number n) u))
-    (more (l + 1) (below (number n) u))))
+    further l (try_here by_latest (header_stop by_latest left) t) (number n) (λ t. f (l + 1) t) g (λ t. more (l + 1) t)
 
 -- on by the keys of a header
 pub keys_tell : (a : Bool) (rows : Rows) (keys : KeyTexts) (l : ℕ) (t : Trie)
     → Tells (keys_obstacle a rows keys l t) (try_by_keys a rows keys t)
 keys_tell a rows [] l t = table_tells l rows t
 keys_tell true rows (k ∷ []) l t =
-    let o = try_here passed (header_stop passed 1) t in
-    let f : Trie → Option Obstacle = λ u. element_obstacle (l + 1) rows (below (key k) u) in
-    let g : Trie → Outcome Trie = λ u. try_step (key k) (λ t. try_put_element rows t) u in
-    level_tells l (and_behind o f) (and_on o g)
-    (behind_tells o f g (λ u. step_tells (key k) (λ t. try_put_element rows t) u
-    (element_obstacle (l + 1) rows (below (key k) u)) (element_tells (l + 1) rows (below (key k) u))))
+    further l (try_here passed (header_stop passed 1) t) (key k) (λ t. element_obstacle (l + 1) rows t)
+    (λ t. try_put_element rows t) (λ t. element_tells (l + 1) rows t)
 keys_tell false rows (k ∷ []) l t =
-    let o = try_here passed (header_stop passed 1) t in
-    let on : Trie → Option Obstacle = λ t. obstacle_on (λ l t. table_obstacle l rows t) 0 (l + 1) (count t) t in
-    let go : Trie → Outcome Trie = λ t. try_go_on (λ t. try_put_table rows t) 0 (count t) t in
-    let f : Trie → Option Obstacle = λ u. on (below (key k) u) in
-    let g : Trie → Outcome Trie = λ u. try_step (key k) go u in
-    level_tells l (and_behind o f) (and_on o g)
-    (behind_tells o f g (λ u. step_tells (key k) go u (on (below (key k) u))
-    (on_tells (λ l t. table_obstacle l rows t) (λ t. try_put_table rows t) 0 (l + 1) (count (below (key k) u))
-    (below (key k) u) (λ l t. table_tells l rows t))))
+    further l (try_here passed (header_stop passed 1) t) (key k)
+    (λ t. obstacle_on (λ l t. table_obstacle l rows t) 0 (l + 1) (count t) t)
+    (λ t. try_go_on (λ t. try_put_table rows t) 0 (count t) t)
+    (λ t. on_tells (λ l t. table_obstacle l rows t) (λ t. try_put_table rows t) 0 (l + 1) (count t) t
+    (λ l t. table_tells l rows t))
 keys_tell a rows (k ∷ m ∷ keys) l t =
-    let o = try_here passed (header_stop passed (length (k ∷ m ∷ keys))) t in
     let left = length (m ∷ keys) in
-    let on : Trie → Option Obstacle =
-    λ t. obstacle_on (λ l t. keys_obstacle a rows (m ∷ keys) l t) left (l + 1) (count t) t in
-    let go : Trie → Outcome Trie = λ t. try_go_on (λ t. try_by_keys a rows (m ∷ keys) t) left (count t) t in
-    let f : Trie → Option Obstacle = λ u. on (below (key k) u) in
-    let g : Trie → Outcome Trie = λ u. try_step (key k) go u in
-    level_tells l (and_behind o f) (and_on o g)
-    (behind_tells o f g (λ u. step_tells (key k) go u (on (below (key k) u))
-    (on_tells (λ l t. keys_obstacle a rows (m ∷ keys) l t) (λ t. try_by_keys a rows (m ∷ keys) t) left (l + 1)
-    (count (below (key k) u)) (below (key k) u) (λ l t. keys_tell a rows (m ∷ keys) l t))))
+    further l (try_here passed (header_stop passed (length (k ∷ m ∷ keys))) t) (key k)
+    (λ t. obstacle_on (λ l t. keys_obstacle a rows (m ∷ keys) l t) left (l + 1) (count t) t)
+    (λ t. try_go_on (λ t. try_by_keys a rows (m ∷ keys) t) left (count t) t)
+    (λ t. on_tells (λ l t. keys_obstacle a rows (m ∷ keys) l t) (λ t. try_by_keys a rows (m ∷ keys) t) left (l + 1)
+    (count t) t (λ l t. keys_tell a rows (m ∷ keys) l t))
 
 -- a stop that is met first stops without levels
 pub met_stops : (a : Bool) (rows : Rows) (keys : KeyTexts) (l : ℕ) (t : Trie) (x : Stop)

@@ -3,7 +3,7 @@ use Rattle.std.proofs.Common.{◌≡◌, ℕ, ◌<◌, ◌≤◌, Bool, true, fa
 use Rattle.std.specs.Option.{option_or}
 use Rattle.basic_toml_value.specs.Nesting.{nesting_limit}
 use Rattle.basic_toml_grow.specs.declared.clash.Clash.{Clash}
-use Rattle.basic_toml_grow.specs.declared.clash.Clash.TheVariants.{Memory, Deep, Header, Named, Redefined, Row}
+use Rattle.basic_toml_grow.specs.declared.clash.Clash.TheVariants.{Memory, Deep}
 use Rattle.basic_toml_grow.specs.Clash.{Obstacle, too_deep, in_the_way, NamesObstacle}
 use Rattle.basic_toml_grow.specs.Obstacles.{above}
 
@@ -28,7 +28,4 @@ pub passed_on : (clash : Clash) (o p : Option Obstacle) → ((x : Obstacle) → 
     → NamesObstacle o clash → NamesObstacle p clash
 passed_on Memory o p on is = tt
 passed_on Deep o p on is = on too_deep is
-passed_on (Header n) o p on is = (is.0, (is.1.0, on (in_the_way is.0) is.1.1))
-passed_on Named o p on is = (is.0, (is.1.0, on (in_the_way is.0) is.1.1))
-passed_on Redefined o p on is = (is.0, (is.1.0, on (in_the_way is.0) is.1.1))
-passed_on (Row met) o p on is = (is.0, (is.1.0, on (in_the_way is.0) is.1.1))
+passed_on _ o p on is = (is.0, (is.1.0, on (in_the_way is.0) is.1.1))

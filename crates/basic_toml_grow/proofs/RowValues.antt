@@ -1,11 +1,11 @@
 -- One row with its value, put into a table of a level.
-use Rattle.std.proofs.Common.{◌≡◌, ◌≤◌, ◌<◌, ℕ, ◌+◌, ◌-◌, inl, List, []}
+use Rattle.std.proofs.Common.{◌≡◌, ◌≤◌, ◌<◌, ℕ, ◌+◌, ◌-◌, inl, inr, List, []}
 use Rattle.std.proofs.Common.{◌∷◌, ◌++◌, length, map, Option, Some, None, Err, refl, sym, ap, ◌∙◌, arith, rules}
 use Rattle.std.proofs.Common.{subst, option_map}
 use Rattle.std.specs.Option.{option_or}
 use Rattle.basic_toml_value.specs.Data.{Data}
 use Rattle.basic_toml_value.specs.Nesting.{nesting_limit}
-use Rattle.basic_toml_grammar.specs.Sections.{Key, texts, Raw, no_rows, row, KeyTexts}
+use Rattle.basic_toml_grammar.specs.Sections.{Key, texts, Raw, row, KeyTexts}
 use Rattle.basic_toml_grammar.specs.Levels.{rows_level, value_level}
 use Rattle.basic_toml_grammar.specs.Mentions.{finished}
 use Rattle.basic_toml_grammar.specs.Trie.{Trie, put_row, put_rows}
@@ -17,9 +17,11 @@ use Rattle.basic_toml_read.specs.declared.section.Row as lines
 use Rattle.basic_toml_plain.specs.Tries.{leaf}
 use Rattle.basic_toml_grow.specs.declared.clash.Clash.{Clash}
 use Rattle.basic_toml_grow.specs.declared.met.Met.{Met}
-use Rattle.basic_toml_grow.specs.Rows.{AreIn, AreKeptOut, one_row, Reason, memory, deep, crossed, reason}
+use Rattle.basic_toml_grow.specs.Rows.{AreIn, AreKeptOut, one_row, reason}
 use Rattle.basic_toml_grow.specs.Rows.{met_reason, Enters, IsFinished, IsUnfinished}
-use Rattle.basic_toml_grow.proofs.Reasons.{KeptFor, kept_for, UnfinishedFor, for_unfinished, kept_for_met}
+use Rattle.basic_toml_grow.specs.declared.clash.Clash.TheVariants.{Memory, Deep}
+use Rattle.basic_toml_grow.specs.declared.met.Met.TheVariants as mets
+use Rattle.basic_toml_grammar.specs.RowClash.{value_clashes}
 use Rattle.basic_toml_grammar.specs.TrieStops.{try_put_row}
 use Rattle.basic_toml_grow.specs.Clash.{Obstacle, too_deep, NamesObstacle}
 use Rattle.basic_toml_grow.specs.Obstacles.{and_behind, held_obstacle, value_obstacle, rows_obstacle}
@@ -28,15 +30,6 @@ use Rattle.basic_toml_grow.proofs.ObstaclesPassOn.{passed_on, behind_low, behind
 use Rattle.basic_toml_grow.specs.RowStops.{key_at, TellsRow, SaysMet, SaysHeld}
 use Rattle.basic_toml_read.proofs.RowsHaveKeys.{every_row}
 use Rattle.basic_toml_grow.proofs.RowsLeft.{clash_alone, then_same}
-
-kept_by_value : (ks : List Key) (at : ℕ) (v : Raw) (level last : ℕ) (before : Trie) (why : Reason)
-    → last ≡ level + length ks - 1 → UnfinishedFor v last why → KeptFor (row ks at v no_rows) level before why
-kept_by_value ks at v level last before memory is_last u = tt
-kept_by_value ks at v level last before deep is_last u =
-    let high : nesting_limit < value_level (level + length ks - 1) v =
-    subst (λ (l : ℕ). nesting_limit < value_level l v) is_last u in
-    omega arith
-kept_by_value ks at v level last before crossed is_last u = inl (clash_alone ks at v ∙ u)
 
 same_key : {n m : ℕ} {t u : List ℕ} → n ≡ m → t ≡ u → key_at n t ≡ key_at m u
 same_key a b = cc
@@ -67,12 +60,16 @@ module _ (parents : List keys.Key) (r : lines.Row) (level : ℕ) (before : Trie)
   pub value_kept_out : (clash held : Clash) → reason held ≡ reason clash
       → IsUnfinished (raw_of (lines.out-Row r).value) (level + length parents) clash
       → AreKeptOut (one_row parents r) level before held
-  value_kept_out clash held same unfinished =
-      kept_for (one_row parents r) level before held (subst
-      (λ (why : Reason). KeptFor (one_row parents r) level before why) (sym same)
-      (kept_by_value ks (lined_of r).start v level (level + length parents) before (reason clash) last_level
-      (for_unfinished v (level + length parents) clash
-      (subst (λ (w : Raw). IsUnfinished w (level + length parents) clash) (sym (row_value r)) unfinished))))
+  value_kept_out clash Memory same u = tt
+  value_kept_out Deep Deep same u =
+      let high : nesting_limit < value_level (level + length ks - 1) v =
+      subst (λ (l : ℕ). nesting_limit < value_level l v) last_level (rw (row_value r) u) in
+      omega arith
+  value_kept_out _ Deep same u = absurd (cc)
+  value_kept_out Memory _ same u = absurd (cc)
+  value_kept_out Deep _ same u = absurd (cc)
+  value_kept_out _ _ same u =
+      inl (clash_alone ks (lined_of r).start v ∙ ap (λ (w : Raw). value_clashes w) (row_value r) ∙ u)
 
   -- a row above the limit, and one that is not
   pub deep_stopped : nesting_limit < level + length parents
@@ -160,8 +157,7 @@ module _ (parents : List keys.Key) (r : lines.Row) (level : ℕ) (before : Trie)
         → IsFinished (raw_of (lines.out-Row r).value) (level + length parents) child
         → ((d : Data) → child ≡ leaf d → Enters (put_row texts_are d before) after (Err met))
         → AreKeptOut (one_row parents r) level before clash
-    value_met child after met clash same done entered =
-        kept_for (one_row parents r) level before clash (subst
-        (λ (why : Reason). KeptFor (one_row parents r) level before why) (sym same)
-        (kept_for_met after (put_row texts_are (finished v) before) (one_row parents r) level before met
-        (entered (finished v) (its_value child done).value) (λ none. put_one ∙ none)))
+    value_met child after met Memory same done entered = tt
+    value_met child after mets.Memory _ same done entered = absurd (cc)
+    value_met child after _ Deep same done entered = absurd (cc)
+    value_met child after _ _ same done entered = inr (put_one ∙ entered (finished v) (its_value child done).value)

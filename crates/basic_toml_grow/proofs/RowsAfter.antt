@@ -19,12 +19,10 @@ use Rattle.basic_toml_grow.specs.declared.item.Table.{Table, out-Table}
 use Rattle.basic_toml_grow.specs.Item.{table_trie}
 use Rattle.basic_toml_grow.specs.Origins.{table_within, with_more, rows_origins}
 use Rattle.basic_toml_grow.specs.Simple.{entries_of, with_entries}
-use Rattle.basic_toml_grow.specs.Rows.{AreIn, AreKeptOut, EntersRows, Reason, memory, deep, crossed, reason}
-use Rattle.basic_toml_grow.proofs.Reasons.{KeptFor, kept_for, for_kept}
-use Rattle.basic_toml_grow.proofs.RowsLeft.{AreLeft}
+use Rattle.basic_toml_grow.specs.Rows.{AreIn, EntersRows}
+use Rattle.basic_toml_grow.specs.declared.clash.Clash.TheVariants.{Memory, Deep}
 use Rattle.basic_toml_read.proofs.RowsHaveKeys.{rows_are_keyed}
-use Rattle.basic_toml_grow.proofs.Origins.OriginsLeft.{OriginsLeft}
-use Rattle.basic_toml_grow.proofs.SimpleRows.{first_simple, others_left, others_come}
+use Rattle.basic_toml_grow.proofs.SimpleRows.{FirstIn, first_rows_in, first_simple}
 
 -- the values of rows that do not clash do not clash
 values_apart : (rows : Rows) → rows_clash rows ≡ false → values_clash rows ≡ false
@@ -38,11 +36,6 @@ values_apart (row ks at v rows) apart =
     go false true c d apart others = absurd (cc)
     go false false c d apart others = others apart
 
--- The first rows are in the table: putting those after them into it as it is, is putting all into it as it was.
-pub record FirstIn (s level : ℕ) (rows more : List Row) (t now : Table) : Type 0 where
-  pub left : AreLeft (rows_seen [] rows) level (table_trie t) (rows_seen [] more) (table_trie now)
-  pub come : OriginsLeft s (rows_seen [] rows) (table_within t) (rows_seen [] more) (table_within now)
-
 -- plain rows, of which the first, whose keys differ, are the entries of a table that had none
 pub first_in : {s level : ℕ} {rows more : List Row} {t now : Table} (count : ℕ) → level ≤ nesting_limit
     → (out-Table t).entries ≡ [] → are_all_plain level rows ≡ true
@@ -53,10 +46,8 @@ first_in {s = s} {level = level} {rows = rows} {more = more} {t = t} {now = now}
     let parts : rows ≡ take count rows ++ more =
     sym (take-append-drop count rows) ∙ ap (λ rs. take count rows ++ rs) (sym is_more) in
     let simple : are_simple level (take count rows) ≡ true = first_simple level count rows plain distinct in
-    subst (λ (u : Table). FirstIn s level rows more t u) (sym is_now) (record {
-      left = others_left s level low t none rows (take count rows) more parts simple;
-      come = others_come s level low t none rows (take count rows) more parts simple;
-    })
+    subst (λ (u : Table). FirstIn s level rows more t u) (sym is_now)
+    (first_rows_in s level low t none rows (take count rows) more parts simple)
 
 module _ {s level : ℕ} {rows more : List Row} {t now : Table} (first : FirstIn s level rows more t now) where
   -- where the rows after them are in the table, all are
@@ -73,24 +64,14 @@ module _ {s level : ℕ} {rows more : List Row} {t now : Table} (first : FirstIn
       }
 
   -- and what keeps these out keeps all out
-  others_kept_out : (clash : Clash) → AreKeptOut (rows_seen [] more) level (table_trie now) clash
-      → AreKeptOut (rows_seen [] rows) level (table_trie t) clash
-  others_kept_out clash kept =
-      kept_for (rows_seen [] rows) level (table_trie t) clash
-      (go (reason clash) (for_kept (rows_seen [] more) level (table_trie now) clash kept))
-    where
-      go : (why : Reason) → KeptFor (rows_seen [] more) level (table_trie now) why
-          → KeptFor (rows_seen [] rows) level (table_trie t) why
-      go memory kept = tt
-      go deep kept = first.left.deep kept
-      go crossed (inl c) = inl (first.left.clash c)
-      go crossed (inr none) = inr (first.left.put ∙ none)
-
   pub all_entered : (after : Trie) (result : Result (Unit {0}) Clash)
       → EntersRows (rows_seen [] more) level (table_trie now) after result
       → EntersRows (rows_seen [] rows) level (table_trie t) after result
   all_entered after (Ok x) entered = others_in after entered
-  all_entered after (Err clash) kept = others_kept_out clash kept
+  all_entered after (Err Memory) kept = tt
+  all_entered after (Err Deep) kept = first.left.deep kept
+  all_entered after (Err _) (inl c) = inl (first.left.clash c)
+  all_entered after (Err _) (inr none) = inr (first.left.put ∙ none)
 
   -- what these meet first all meet first
   pub all_stopped : (result : Result (Unit {0}) Clash)

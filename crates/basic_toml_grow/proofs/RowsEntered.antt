@@ -1,6 +1,6 @@
 -- A row put into a table: its first key, and what that key leads to.
 use Rattle.std.proofs.Common.{◌≡◌, ℕ, true, List, [], ◌∷◌, ◌++◌, ap, ◌∙◌, refl, sym, Option, Some, None, Result, Ok, Err}
-use Rattle.std.proofs.Common.{rules, subst}
+use Rattle.std.proofs.Common.{rules, subst, option_map}
 use Rattle.std.specs.Prelude.{IfOk, IfErr}
 use Rattle.std.specs.List.{slice_get}
 use Rattle.basic_toml_value.specs.Data.{Data}
@@ -24,9 +24,10 @@ use Rattle.basic_toml_grow.specs.Item.{child_trie, table_trie, trie_before}
 use Rattle.basic_toml_value.specs.Growth.{with_value, values_of, FindsOrAdds}
 use Rattle.basic_toml_value.specs.declared.pairs.growth.Place.{Place}
 use Rattle.basic_toml_grow.specs.Rows.{Enters}
-use Rattle.basic_toml_grow.proofs.KeysInATrie.{tries_of, change_put, change_refused, with_same}
-use Rattle.basic_toml_grow.proofs.ItemTries.{table_entries_trie, entries_with, with_entries_twice}
+use Rattle.basic_toml_grow.proofs.KeysInATrie.{tries_of, change_made, with_mapped, with_same}
+use Rattle.basic_toml_grow.proofs.ItemTries.{table_entries_trie, entries_with}
 use Rattle.basic_toml_grow.proofs.ItemTries.{with_entries_trie}
+use Rattle.basic_toml_grow.proofs.LatestInATrie.{mapped_twice}
 
 -- what is met
 pub is_met : (changed : Option Trie) (after : Trie) (met : Met) → changed ≡ None → Enters changed after (Err met)
@@ -45,14 +46,12 @@ pub ok_on : {A E : Type 0} (P Q : A → Type 0) (result : Result A E) → ((x : 
 ok_on P Q (Ok x) on is = on x is
 ok_on P Q (Err e) on is = tt
 
--- a change within another, which it makes or stops
-pub within : (changed whole : Option Trie) (inner outer : Trie) (result : Result (Unit {0}) Met)
-    → (changed ≡ None → whole ≡ None) → (changed ≡ Some inner → whole ≡ Some outer)
-    → Enters changed inner result → Enters whole outer result
-within changed whole inner outer (Ok _) none some entered = some entered
-within changed whole inner outer (Err mets.Memory) none some entered = tt
-within changed whole inner outer (Err (mets.Header left)) none some entered = none entered
-within changed whole inner outer (Err mets.Row) none some entered = none entered
+-- a change within another
+pub within : (changed whole : Option Trie) (inner outer : Trie) (f : Trie → Trie) (result : Result (Unit {0}) Met)
+    → whole ≡ option_map f changed → outer ≡ f inner → Enters changed inner result → Enters whole outer result
+within changed whole inner outer f (Ok _) same is entered = same ∙ ap (option_map f) entered ∙ ap Some (sym is)
+within changed whole inner outer f (Err mets.Memory) same is entered = tt
+within changed whole inner outer f (Err _) same is entered = same ∙ ap (option_map f) entered
 
 -- the key of a row
 pub row_key : (row : Row) → (lined_of row).key.text ≡ key_text_bytes (out-Row row).key
@@ -70,56 +69,51 @@ module _ {gives : Child → Type 0} (before : Table) (k : List ℕ) (new : List 
     (e : FindsOrAdds gives k (out-Table before).entries new p)
     (there : Child) (stands : slice_get (values_of new) p.position ≡ Some there) where
   -- a change at the key, in the table
-  at_key : (g : Trie → Option Trie)
+  abbrev pub changed_table : Trie → Trie
+  changed_table u =
+      trie (standing (table_trie before)) None (by_keys (with_value (tries_of child_trie new) p.position u))
+
+  pub step_made : (g : Trie → Option Trie)
       → at_step (steps.key k) g (table_trie before)
-      ≡ with_tries (standing (table_trie before)) None
-      (among (steps.key k) g (by_keys (tries_of child_trie (out-Table before).entries)))
-  at_key g = rw (table_entries_trie before) refl
+      ≡ option_map changed_table (g (trie_before p.is_new (child_trie there)))
+  step_made g =
+      at_key
+      ∙ ap (with_tries (standing (table_trie before)) None)
+      (change_made child_trie k (out-Table before).entries new p e there stands g)
+      ∙ mapped_twice (λ ts. trie (standing (table_trie before)) None ts)
+      (λ u. by_keys (with_value (tries_of child_trie new) p.position u)) (g (trie_before p.is_new (child_trie there)))
+    where
+      at_key : at_step (steps.key k) g (table_trie before)
+          ≡ with_tries (standing (table_trie before)) None
+          (among (steps.key k) g (by_keys (tries_of child_trie (out-Table before).entries)))
+      at_key = rw (table_entries_trie before) refl
 
   -- the table after it
-  put_after : (g : Trie → Option Trie) (child : Child) (ps : List (List ℕ × Child))
-      → g (trie_before p.is_new (child_trie there)) ≡ Some (child_trie child)
-      → ps ≡ with_value new p.position child
-      → at_step (steps.key k) g (table_trie before) ≡ Some (table_trie (with_entries before ps))
-  put_after g child ps changed same =
-      at_key g
-      ∙ ap (with_tries (standing (table_trie before)) None)
-      (change_put child_trie k (out-Table before).entries new p e there stands g child changed)
-      ∙ ap (λ ps. Some (trie (standing (table_trie before)) None (by_keys (tries_of child_trie ps)))) (sym same)
-      ∙ ap Some (sym (with_entries_trie before ps))
-
-  pub step_put : (g : Trie → Option Trie) (child : Child) (mid : Table) (ps : List (List ℕ × Child))
-      → g (trie_before p.is_new (child_trie there)) ≡ Some (child_trie child) → mid ≡ with_entries before new
-      → ps ≡ with_value (out-Table mid).entries p.position child
-      → at_step (steps.key k) g (table_trie before) ≡ Some (table_trie (with_entries mid ps))
-  step_put g child mid ps changed is_mid is_ps =
-      put_after g child ps changed
-      (is_ps ∙ ap (λ t. with_value (out-Table t).entries p.position child) is_mid
-      ∙ ap (λ qs. with_value qs p.position child) (entries_with before new))
-      ∙ ap (λ t. Some (table_trie t)) (sym (ap (λ t. with_entries t ps) is_mid ∙ with_entries_twice before new ps))
+  pub table_after : (child : Child)
+      → table_trie (with_entries before (with_value new p.position child)) ≡ changed_table (child_trie child)
+  table_after child =
+      with_entries_trie before (with_value new p.position child)
+      ∙ ap (λ qs. trie (standing (table_trie before)) None (by_keys qs)) (with_mapped child_trie new p.position child)
 
   -- where the key is new, its value is what the change gives
   pub step_added : (g : Trie → Option Trie) → p.is_new ≡ true → g nothing ≡ Some (child_trie there)
       → at_step (steps.key k) g (table_trie before) ≡ Some (table_trie (with_entries before new))
   step_added g is_new changed =
-      put_after g there new (ap (λ b. g (trie_before b (child_trie there))) is_new ∙ changed)
-      (sym (with_same new p.position there stands))
+      step_made g
+      ∙ ap (option_map changed_table) (ap (λ b. g (trie_before b (child_trie there))) is_new ∙ changed)
+      ∙ ap Some (sym (table_after there)
+      ∙ ap (λ ps. table_trie (with_entries before ps)) (with_same new p.position there stands))
 
   pub step_refused : (g : Trie → Option Trie) → g (trie_before p.is_new (child_trie there)) ≡ None
       → at_step (steps.key k) g (table_trie before) ≡ None
-  step_refused g refused =
-      at_key g
-      ∙ ap (with_tries (standing (table_trie before)) None)
-      (change_refused child_trie k (out-Table before).entries new p e there stands g refused)
+  step_refused g refused = step_made g ∙ ap (option_map changed_table) refused
 
 -- what stands at a position of the entries of a table
-pub stands_in : (before t : Table) (new : List (List ℕ × Child)) (position : ℕ) (there : Child)
-    → t ≡ with_entries before new → slice_get (values_of (out-Table t).entries) position ≡ Some there
+pub stands_in : {there : Child} (t : Table) (new : List (List ℕ × Child)) (position : ℕ)
+    → slice_get (values_of (out-Table (with_entries t new)).entries) position ≡ Some there
     → slice_get (values_of new) position ≡ Some there
-stands_in before t new position there same stands =
-    sym (ap (λ t. slice_get (values_of (out-Table t).entries) position) same
-    ∙ ap (λ ps. slice_get (values_of ps) position) (entries_with before new))
-    ∙ stands
+stands_in t new position stands =
+    sym (ap (λ ps. slice_get (values_of ps) position) (entries_with t new)) ∙ stands
 
 -- a key that is entered by another name
 pub same_key_entered : {gives : Child → Type 0} {k l : List ℕ} {old new : List (List ℕ × Child)} {p : Place} → k ≡ l

@@ -1,6 +1,7 @@
 -- The rows of a section that stay as they were read: few and simple ones, without a parent.
-use Rattle.std.proofs.Common.{◌≡◌, ℕ, ◌+◌, ◌≤◌, Bool, true, false, List, [], ◌==◌, refl, ap, ap₂, sym, ◌∙◌, arith}
-use Rattle.std.proofs.Common.{rules, Vec, Box, Global, Ok}
+use Rattle.std.proofs.Common.{◌≡◌, ℕ, ◌+◌, ◌≤◌, Bool, true, false, List, [], ◌∷◌, length, ◌==◌, ap, ap₂, sym, ◌∙◌, arith}
+use Rattle.std.proofs.Common.{rules, Vec, Box, Global, Ok, length-append, option_map}
+use Rattle.std.proofs.lemmas.List.{length-map, map-append}
 use Rattle.std.specs.Prelude.{vec_len}
 use Rattle.basic_toml_value.specs.Nesting.{nesting_limit}
 use Rattle.basic_toml_read.specs.declared.section.Raw as raws
@@ -8,18 +9,25 @@ use Rattle.basic_toml_read.specs.declared.section.Row.{Row}
 use Rattle.basic_toml_read.specs.declared.section.Rows as tables
 use Rattle.basic_toml_read.specs.SectionView.{rows_seen, rows_view}
 use Rattle.basic_toml_plain.specs.Plain.{are_few_simple}
-use Rattle.basic_toml_plain.specs.PlainTables.{SectionTables, with_table}
+use Rattle.basic_toml_grammar.specs.Trie.{count, nothing, put_element, put_table}
+use Rattle.basic_toml_plain.specs.PlainTables.{SectionTable, SectionTables, tables_in, with_table}
+use Rattle.basic_toml_plain.specs.Tries.{rows_trie}
 use Rattle.basic_toml_plain.proofs.WhatIsLeft.{nothing_left}
 use Rattle.basic_toml_grow.specs.declared.item.Item as items
 use Rattle.basic_toml_grow.specs.declared.item.Child.{Child, out-Child}
 use Rattle.basic_toml_grow.specs.Item.{child_trie, item_trie}
-use Rattle.basic_toml_grow.specs.Origins.{child_origins, item_origins}
+use Rattle.basic_toml_grow.specs.Origins.{at_numbers, child_origins, item_origins, no_origins, section_origins}
 use Rattle.basic_toml_grow.specs.Takes.{TakesHeaderAtKey}
 use Rattle.basic_toml_grow.proofs.RowsLeft.{no_parents_seen}
-use Rattle.basic_toml_grow.proofs.SectionsEntered.{section_entered, section_grows, section_marks}
-use Rattle.basic_toml_grow.proofs.SectionsAdded.{added_marks, first_added, first_grows}
-use Rattle.basic_toml_grow.proofs.SectionsAdded.{child_added, child_grows, child_marks}
-use Rattle.basic_toml_grow.proofs.HeadersEntered.{holding, out_holding}
+use Rattle.basic_toml_grow.proofs.SectionsEntered.{section_entered, section_grows, section_marks, seen}
+use Rattle.basic_toml_grow.proofs.SectionsAdded.{added_grows, added_in, added_marks, tries}
+use Rattle.basic_toml_grow.proofs.HeadersEntered.{holding, holding_trie}
+use Rattle.basic_toml_grow.proofs.HeadersInATrie.{array_of, enter_latest, fresh, put_next}
+use Rattle.basic_toml_grow.proofs.ItemTries.{child_item_trie}
+use Rattle.basic_toml_grow.proofs.TablesOpened.{sections_trie}
+use Rattle.basic_toml_grow.proofs.Origins.OriginsSeen.{child_seen, section_item_seen, sections_seen}
+use Rattle.basic_toml_grow.proofs.Origins.HeadersPlaceOrigins.{holding_origins}
+use Rattle.basic_toml_grow.proofs.Origins.ElementsPlaceOrigins.{none_below}
 
 -- what the code asks of them, for a table of a level
 pub record CanStay (rows : tables.Rows) (level : ℕ) : Type 0 where
@@ -62,10 +70,10 @@ module _ (rows : tables.Rows) (n level : ℕ) (child now : Child) (is_new : Bool
       → TakesHeaderAtKey false (rows_view rows) [] level n is_new child now (Ok tt)
   stay_at_key stay low same trie origins =
       let own = (tables.out-Rows rows).rows.items in record {
-        entered = rw (stay.seen, new, trie, same) (section_entered n level own low stay.few);
+        entered = rw (stay.seen, new, trie, same) (section_entered n own (level + 1) low stay.few);
         named = tt;
-        origins = rw (stay.seen, new, origins, same) (section_grows n level own 0);
-        marks = rw (new, origins, same) (section_marks n level own 0);
+        origins = rw (stay.seen, new, origins, same) (section_grows n own 0);
+        marks = rw (new, origins, same, section_item_seen own 0 n) (section_marks n own 0);
       }
 
   pub stay_in_first : CanStay rows (level + 2) → level + 2 ≤ nesting_limit → (array : Box SectionTables Global)
@@ -74,10 +82,12 @@ module _ (rows : tables.Rows) (n level : ℕ) (child now : Child) (is_new : Bool
       → TakesHeaderAtKey true (rows_view rows) [] level n is_new child now (Ok tt)
   stay_in_first stay low array is trie origins =
       let own = (tables.out-Rows rows).rows.items in record {
-        entered = rw (stay.seen, new, trie) (first_added n level own low stay.few array is);
+        entered = rw (stay.seen, new, trie) (added_in n level own array [] is low stay.few nothing
+            (enter_latest true (seen n own) [] [] fresh));
         named = tt;
-        origins = rw (stay.seen, new, origins) (first_grows n level own 0 0 array is);
-        marks = rw (new, origins) (added_marks n level own 0 0 array [] 0 refl is);
+        origins = rw (stay.seen, new, origins)
+            (added_grows n level own array [] is 0 0 no_origins (λ r p. sym (none_below r p)));
+        marks = rw (new, origins) (added_marks n level own array [] is 0 0);
       }
 
 -- In an array of such tables they are those of its next one.
@@ -88,13 +98,26 @@ pub stay_in_next : (rows : tables.Rows) (n level : ℕ) (child : Child) (is_new 
     → TakesHeaderAtKey true (rows_view rows) [] level n is_new child (holding child (items.Sections after)) (Ok tt)
 stay_in_next rows n level child is_new old after stay low here was more =
     let own = (tables.out-Rows rows).rows.items in
-    let whole = rows_view rows in
-    let now = holding child (items.Sections after) in
-    let out = out_holding child (items.Sections after) in
-    let is : (out-Child now).item ≡ items.Sections after = ap (λ o. o.item) out in record {
-      entered = child_added n level own whole stay.seen child now is_new old after (sym here) was is more low stay.few;
+    let before = tables_in old.value in
+    let at = (out-Child child).start in
+    let z = (out-Child child).section in
+    let trie = child_item_trie child ∙ ap item_trie was in
+    let counted : count (item_trie (items.Sections old)) ≡ length before =
+    ap count (sections_trie old) ∙ omega (
+      arith,
+      length-map old.value.0 (λ (t : SectionTable). rows_trie t.1),
+      length-append old.value.0 (old.value.1 ∷ []),
+    ) in record {
+      entered = rw (stay.seen, here, trie, holding_trie child (items.Sections after))
+          (added_in n level own after before more low stay.few (item_trie (items.Sections old))
+          (ap (put_element (seen n own)) (sections_trie old) ∙ put_next (seen n own) (tries old.value.0) _
+          ∙ ap (λ ts. option_map (λ u. array_of ts u) (put_table (seen n own) fresh))
+          (sym (map-append (λ (t : SectionTable). rows_trie t.1) old.value.0 (old.value.1 ∷ [])))));
       named = tt;
-      origins = child_grows n level own whole stay.seen child now is_new old after (sym here) was is more
-          (ap (λ o. o.start) out) (ap (λ o. o.section) out);
-      marks = child_marks n level own whole stay.seen child now is_new old after (sym here) was is more;
+      origins = rw (stay.seen, here, trie, counted, holding_origins child (items.Sections after), child_seen child, was)
+          (added_grows n level own after before more at z (item_origins (items.Sections old) at z)
+          (λ r p. ap (λ f. f (r ∷ p)) (sections_seen old at z) ∙ ap (λ os. at_numbers os (r ∷ p))
+          (sym (map-append (section_origins at) old.value.0 (old.value.1 ∷ [])))));
+      marks = rw (here, trie, counted, holding_origins child (items.Sections after))
+          (added_marks n level own after before more at z);
     }

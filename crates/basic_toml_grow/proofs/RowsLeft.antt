@@ -16,12 +16,12 @@ use Rattle.basic_toml_grammar.specs.Mentions.{finished}
 use Rattle.basic_toml_grammar.specs.Trie.{Trie, put_row, put_rows}
 use Rattle.basic_toml_grammar.proofs.Tries.RowsThatOverlapAreRefused.{values_clash, put_apart}
 use Rattle.basic_toml_plain.proofs.WhatIsLeft.{nothing_left}
-use Rattle.basic_toml_grow.specs.Rows.{AreIn, AreKeptOut, Reason, memory, deep, crossed, reason}
+use Rattle.basic_toml_grow.specs.Rows.{AreIn, AreKeptOut}
 use Rattle.basic_toml_grammar.specs.Stops.{Outcome, goes_on, stops}
 use Rattle.basic_toml_grammar.specs.TrieStops.{try_put_row}
 use Rattle.basic_toml_grow.specs.Clash.{Obstacle, NamesObstacle}
 use Rattle.basic_toml_grow.specs.declared.clash.Clash.{Clash}
-use Rattle.basic_toml_grow.proofs.Reasons.{KeptFor, kept_for, for_kept}
+use Rattle.basic_toml_grow.specs.declared.clash.Clash.TheVariants.{Memory, Deep}
 use Rattle.basic_toml_grow.specs.Obstacles.{above, and_behind, held_obstacle, value_obstacle, rows_obstacle}
 use Rattle.basic_toml_grow.proofs.NoObstacles.{row_behind, value_free}
 use Rattle.basic_toml_grow.proofs.ObstaclesPassOn.{passed_on}
@@ -162,18 +162,11 @@ module _ (whole : Rows) (level : ℕ) (before : Trie) (ks : List Key) (at : ℕ)
   -- a row that is kept out keeps all rows out
   pub row_kept_out : (clash : Clash) → AreKeptOut (row ks at v no_rows) level now clash
       → AreKeptOut whole level before clash
-  row_kept_out clash kept =
-      kept_for whole level before clash (go (reason clash) (for_kept (row ks at v no_rows) level now clash kept))
-    where
-      refused : put_rows (row ks at v no_rows) now ≡ None → put_rows (row ks at v rest) now ≡ None
-      refused none =
-          ap (λ o. and_then o (λ t. put_rows rest t)) (sym (then_same (put_row (texts ks) (finished v) now)) ∙ none)
-
-      go : (why : Reason) → KeptFor (row ks at v no_rows) level now why → KeptFor whole level before why
-      go memory kept = tt
-      go deep kept = left.deep (level_high level ks at v rest kept)
-      go crossed (inl c) = inl (left.clash (clash_more ks at v rest (sym (clash_alone ks at v) ∙ c)))
-      go crossed (inr none) = inr (left.put ∙ refused none)
+  row_kept_out Memory kept = tt
+  row_kept_out Deep kept = left.deep (level_high level ks at v rest kept)
+  row_kept_out _ (inl c) = inl (left.clash (clash_more ks at v rest (sym (clash_alone ks at v) ∙ c)))
+  row_kept_out _ (inr none) = inr (left.put
+      ∙ ap (λ o. and_then o (λ t. put_rows rest t)) (sym (then_same (put_row (texts ks) (finished v) now)) ∙ none))
 
   -- and what it meets first all rows meet first
   pub row_stopped : (clash : Clash) → NamesObstacle (rows_obstacle level (row ks at v no_rows) now) clash

@@ -70,25 +70,26 @@ no_keys_below = fun_ext go
 nothing_before : (f : Origins) → or_else no_origins f ≡ f
 nothing_before f = fun_ext (λ p. refl)
 
+-- the table without rows
+abbrev pub bare : ℕ → Table
+bare s = section_table s []
+
 -- where what stands in it comes from
 module _ (s : ℕ) (rows : List Row) (are : are_few_simple 0 rows ≡ true) where
-  abbrev bare : Table
-  bare = section_table s []
-
-  bare_within : table_within bare ≡ within true s no_origins
-  bare_within = table_seen bare ∙ search (rules, the_lemmas) ∙ ap (within true s) no_keys_below
+  bare_within : table_within (bare s) ≡ within true s no_origins
+  bare_within = table_seen (bare s) ∙ search (rules, the_lemmas) ∙ ap (within true s) no_keys_below
 
   pub section_within : table_within (section_table s rows) ≡ within true s (rows_origins s (rows_seen [] rows))
   section_within =
       ap table_within same
-      ∙ rows_come s 0 (omega arith) bare none rows (few_are_simple 0 rows are)
+      ∙ rows_come s 0 (omega arith) (bare s) none rows (few_are_simple 0 rows are)
       ∙ ap (λ w. with_more w (rows_origins s (rows_seen [] rows))) bare_within
       ∙ ap (within true s) (nothing_before (rows_origins s (rows_seen [] rows)))
     where
-      none : (out-Table bare).entries ≡ []
+      none : (out-Table (bare s)).entries ≡ []
       none = search (rules, the_lemmas)
 
-      same : section_table s rows ≡ with_entries bare (entries_of s rows)
+      same : section_table s rows ≡ with_entries (bare s) (entries_of s rows)
       same = search (rules, the_lemmas)
 
   pub section_origins : (at : ℕ) → item_origins (items.Section rows) at s ≡ of_table at s (table_within (section_table s rows))

@@ -1,9 +1,9 @@
 -- Simple rows, put into a table one after another: they become its entries.
 use Rattle.std.proofs.Common.{◌≡◌, ◌==◌, ◌≤◌, ℕ, ◌+◌, Bool, true, false, ◌||◌, List, [], ◌∷◌, ◌++◌, length, map, Some}
-use Rattle.std.proofs.Common.{arith, suc, take, drop, refl, sym, ap, ◌∙◌, subst, rules, append_assoc, slice_get}
+use Rattle.std.proofs.Common.{arith, take, drop, refl, sym, ap, ◌∙◌, subst, rules, append_assoc, slice_get}
 use Rattle.std.specs.Str.{bytes_eq}
 use Rattle.std.proofs.lemmas.Bool.{false≢true}
-use Rattle.std.proofs.lemmas.List.{append-nil, map-append, take-append-drop, take-map}
+use Rattle.std.proofs.lemmas.List.{append-nil, length-map, take_at, map-append, take-append-drop, take-map}
 use Rattle.std.proofs.lemmas.Slice.Eq.{bytes_eq-Decides}
 use Rattle.basic_toml_index.specs.Keys.{is_among, are_distinct}
 use Rattle.basic_toml_value.specs.Nesting.{nesting_limit}
@@ -12,7 +12,7 @@ use Rattle.basic_toml_index.proofs.DistinctKeys.{bytes_eq-same, is_among-push, s
 use Rattle.basic_toml_grammar.specs.Marks.{valued}
 use Rattle.basic_toml_grammar.specs.Mentions.{finished}
 use Rattle.basic_toml_grammar.specs.Sections.{Rows}
-use Rattle.basic_toml_grammar.specs.Trie.{Trie, mark_here}
+use Rattle.basic_toml_grammar.specs.Trie.{mark_here}
 use Rattle.basic_toml_read.specs.SectionView.{lined_of, raw_of, rows_seen}
 use Rattle.basic_toml_read.specs.declared.section.Key as keys
 use Rattle.basic_toml_read.specs.declared.section.Rows as tables
@@ -32,7 +32,7 @@ use Rattle.basic_toml_grow.specs.declared.item.Item.{the_lemmas}
 use Rattle.basic_toml_grow.specs.declared.item.Child.{Child}
 use Rattle.basic_toml_grow.specs.declared.item.Table.{Table, out-Table}
 use Rattle.basic_toml_grow.specs.Item.{item_trie, child_trie, table_trie}
-use Rattle.basic_toml_grow.specs.Origins.{Within, item_origins, child_origins, table_within, value_origins, table_origin}
+use Rattle.basic_toml_grow.specs.Origins.{item_origins, child_origins, table_within, value_origins, table_origin}
 use Rattle.basic_toml_grow.specs.Origins.{with_more, rows_origins, dotted_of}
 use Rattle.basic_toml_grow.specs.Rows.{AreIn, IsFinished, one_row}
 use Rattle.basic_toml_grow.specs.Simple.{kept, item_of, child_of, entry_of, entries_of, with_entries}
@@ -50,28 +50,14 @@ kept_trie : (x : Raw-F Raw Element Row tables.Rows) (l : ℕ) → is_plain (roll
 kept_trie (Raw-F.Dotted rs) l plain =
     let not_plain : is_plain (roll-Raw (Raw-F.Dotted rs)) l ≡ false = search (rules, raws.the_lemmas) in
     absurd (false≢true (sym not_plain ∙ plain))
-kept_trie (Raw-F.Integer z) l plain = search (rules, the_lemmas, raws.the_lemmas)
-kept_trie (Raw-F.Float text) l plain = search (rules, the_lemmas, raws.the_lemmas)
-kept_trie Raw-F.True l plain = search (rules, the_lemmas, raws.the_lemmas)
-kept_trie Raw-F.False l plain = search (rules, the_lemmas, raws.the_lemmas)
-kept_trie (Raw-F.String text) l plain = search (rules, the_lemmas, raws.the_lemmas)
-kept_trie (Raw-F.Escaped text) l plain = search (rules, the_lemmas, raws.the_lemmas)
-kept_trie (Raw-F.Array es) l plain = search (rules, the_lemmas, raws.the_lemmas)
-kept_trie (Raw-F.Inline rs) l plain = search (rules, the_lemmas, raws.the_lemmas)
+kept_trie _ l plain = search (rules, the_lemmas, raws.the_lemmas)
 
 kept_comes : (x : Raw-F Raw Element Row tables.Rows) (l : ℕ) → is_plain (roll-Raw x) l ≡ true → (at s : ℕ)
     → item_origins (kept x) at s ≡ value_origins s at (raw_of (roll-Raw x))
 kept_comes (Raw-F.Dotted rs) l plain at s =
     let not_plain : is_plain (roll-Raw (Raw-F.Dotted rs)) l ≡ false = search (rules, raws.the_lemmas) in
     absurd (false≢true (sym not_plain ∙ plain))
-kept_comes (Raw-F.Integer z) l plain at s = search (rules, the_lemmas, raws.the_lemmas)
-kept_comes (Raw-F.Float text) l plain at s = search (rules, the_lemmas, raws.the_lemmas)
-kept_comes Raw-F.True l plain at s = search (rules, the_lemmas, raws.the_lemmas)
-kept_comes Raw-F.False l plain at s = search (rules, the_lemmas, raws.the_lemmas)
-kept_comes (Raw-F.String text) l plain at s = search (rules, the_lemmas, raws.the_lemmas)
-kept_comes (Raw-F.Escaped text) l plain at s = search (rules, the_lemmas, raws.the_lemmas)
-kept_comes (Raw-F.Array es) l plain at s = search (rules, the_lemmas, raws.the_lemmas)
-kept_comes (Raw-F.Inline rs) l plain at s = search (rules, the_lemmas, raws.the_lemmas)
+kept_comes _ l plain at s = search (rules, the_lemmas, raws.the_lemmas)
 
 -- plain rows are so at the lowest level too
 pub all_lower : (l : ℕ) (rows : List Row) → are_all_plain l rows ≡ true → are_all_plain 0 rows ≡ true
@@ -120,22 +106,14 @@ keys_more : (ps : List (List ℕ × Child)) (k : List ℕ) (c : Child)
     → keys_of (ps ++ (k, c) ∷ []) ≡ keys_of ps ++ k ∷ []
 keys_more ps k c = map-append (λ (p : List ℕ × Child). p.0) ps ((k, c) ∷ [])
 
-keys_count : (ps : List (List ℕ × Child)) → length (keys_of ps) ≡ length ps
-keys_count [] = refl
-keys_count (p ∷ ps) = ap suc (keys_count ps)
-
-front : (ks : List (List ℕ)) (k : List ℕ) → take (length ks) (ks ++ k ∷ []) ≡ ks
-front [] k = refl
-front (l ∷ ks) k = ap (λ ks. l ∷ ks) (front ks k)
-
 adds : (ps : List (List ℕ × Child)) (k : List ℕ) (c : Child) → has_key ps k ≡ false
     → FindsOrAdds (λ d. d ≡ c) k ps (ps ++ (k, c) ∷ []) (record { position = length ps; is_new = true })
 adds ps k c absent = record {
   there = c;
   stands = last_value ps k c;
   entered = record {
-    at = rw (keys_more ps k c, ← keys_count ps) (slice_get-last (keys_of ps) k);
-    first = rw (keys_more ps k c, ← keys_count ps) (rw (front (keys_of ps) k) absent);
+    at = rw (keys_more ps k c, ← length-map ps (λ (p : List ℕ × Child). p.0)) (slice_get-last (keys_of ps) k);
+    first = rw (keys_more ps k c, take_at (keys_of ps) (k ∷ []) (length ps) (length-map ps _)) absent;
     pairs = rw absent refl;
   };
   is_new = rw absent refl;
@@ -215,76 +193,55 @@ others_apart s ps r rs apart differs k among =
         ∙ ap (is_among (map key_of rs)) (sym ((bytes_eq-Decides k (key_of r)).0 e)) ∙ among))
     other false e = refl
 
--- the first of the rows that are left, put into a table that has none of their keys
-module _ (s level : ℕ) (low : level ≤ nesting_limit) (whole : Rows) (before : Trie) (w : Within) (more : List Row) where
-  abbrev Done : Table → List Row → Type 0
-  Done t rest =
-      AreLeft whole level before (rows_seen [] more)
-      (table_trie (with_entries t ((out-Table t).entries ++ entries_of s rest)))
-      × OriginsLeft s whole w (rows_seen [] more)
-      (table_within (with_entries t ((out-Table t).entries ++ entries_of s rest)))
+-- The first rows are in the table: putting those after them into it as it is, is putting all into it as it was.
+pub record FirstIn (s level : ℕ) (rows more : List Row) (t now : Table) : Type 0 where
+  pub left : AreLeft (rows_seen [] rows) level (table_trie t) (rows_seen [] more) (table_trie now)
+  pub come : OriginsLeft s (rows_seen [] rows) (table_within t) (rows_seen [] more) (table_within now)
 
+-- the first of the rows that are left, put into a table that has none of their keys
+module _ (s level : ℕ) (low : level ≤ nesting_limit) (all more : List Row) (was : Table) where
   rest_in : (rest : List Row) (t : Table) → are_simple level rest ≡ true → AreApart (out-Table t).entries rest
-      → AreLeft whole level before (rows_seen [] (rest ++ more)) (table_trie t)
-      → OriginsLeft s whole w (rows_seen [] (rest ++ more)) (table_within t) → Done t rest
-  rest_in [] t simple apart left come =
-      let same : t ≡ with_entries t ((out-Table t).entries ++ []) =
-      sym (ap (with_entries t) (append-nil (out-Table t).entries) ∙ own_entries t) in (
-        subst (λ (t : Table). AreLeft whole level before (rows_seen [] more) (table_trie t)) same left,
-        subst (λ (t : Table). OriginsLeft s whole w (rows_seen [] more) (table_within t)) same come,
-      )
-  rest_in (r ∷ rs) t simple apart left come =
+      → FirstIn s level all (rest ++ more) was t
+      → FirstIn s level all more was (with_entries t ((out-Table t).entries ++ entries_of s rest))
+  rest_in [] t simple apart here =
+      subst (λ (t : Table). FirstIn s level all more was t)
+      (sym (ap (with_entries t) (append-nil (out-Table t).entries) ∙ own_entries t)) here
+  rest_in (r ∷ rs) t simple apart here =
       let first = first_is_simple level r rs simple in
       let own = (out-Table t).entries in
       let absent = first_apart own r rs apart in
       let after = with_entries t (own ++ entry_of s r ∷ []) in
       let entries : (out-Table after).entries ≡ own ++ entry_of s r ∷ [] = entries_with t (own ++ entry_of s r ∷ []) in
+      let whole = rows_seen [] all in
       let ks = (lined_of r).key ∷ [] in
       let others = rows_seen [] (rs ++ more) in
-      let done = rest_in rs after first.others
-      (subst (λ (ps : List (List ℕ × Child)). AreApart ps rs) (sym entries) (others_apart s own r rs apart first.apart))
-      (row_entered whole level before ks (lined_of r).start (lined_of r).value others (table_trie t)
-      (subst (λ (rows : Rows). AreLeft whole level before rows (table_trie t)) (lone_row r (rs ++ more)) left)
-      (table_trie after) (one_has_keys [] r) (row_in s level low t r first.plain absent))
-      (origins_entered s whole w (table_within t) (table_within after) ks (lined_of r).start (lined_of r).value others
-      (subst (λ (rows : Rows). OriginsLeft s whole w rows (table_within t)) (lone_row r (rs ++ more)) come)
-      (row_is_placed s level low t r first.plain absent)) in
+      let seen = lone_row r (rs ++ more) in
       let same : with_entries after ((out-Table after).entries ++ entries_of s rs)
       ≡ with_entries t (own ++ entries_of s (r ∷ rs)) =
       with_entries_twice t (own ++ entry_of s r ∷ []) ((out-Table after).entries ++ entries_of s rs)
       ∙ ap (λ ps. with_entries t (ps ++ entries_of s rs)) entries
-      ∙ ap (with_entries t) (append_assoc own (entry_of s r ∷ []) (entries_of s rs)) in (
-        subst (λ (t : Table). AreLeft whole level before (rows_seen [] more) (table_trie t)) same done.0,
-        subst (λ (t : Table). OriginsLeft s whole w (rows_seen [] more) (table_within t)) same done.1,
-      )
+      ∙ ap (with_entries t) (append_assoc own (entry_of s r ∷ []) (entries_of s rs)) in
+      subst (λ (t : Table). FirstIn s level all more was t) same (rest_in rs after first.others
+      (subst (λ (ps : List (List ℕ × Child)). AreApart ps rs) (sym entries) (others_apart s own r rs apart first.apart))
+      (record {
+        left = row_entered whole level (table_trie was) ks (lined_of r).start (lined_of r).value others (table_trie t)
+            (subst (λ (rows : Rows). AreLeft whole level (table_trie was) rows (table_trie t)) seen here.left)
+            (table_trie after) (one_has_keys [] r) (row_in s level low t r first.plain absent);
+        come = origins_entered s whole (table_within was) (table_within t) (table_within after) ks (lined_of r).start
+            (lined_of r).value others
+            (subst (λ (rows : Rows). OriginsLeft s whole (table_within was) rows (table_within t)) seen here.come)
+            (row_is_placed s level low t r first.plain absent);
+      }))
 
 -- the first of all rows, put into a table without entries: the others are left
-module _ (s level : ℕ) (low : level ≤ nesting_limit) (t : Table) (none : (out-Table t).entries ≡ [])
-    (all rows more : List Row) (parts : all ≡ rows ++ more) (simple : are_simple level rows ≡ true) where
-  abbrev full : Table
-  full = with_entries t (entries_of s rows)
-
-  first_in : AreLeft (rows_seen [] all) level (table_trie t) (rows_seen [] more) (table_trie full)
-      × OriginsLeft s (rows_seen [] all) (table_within t) (rows_seen [] more) (table_within full)
-  first_in =
-      let done = rest_in s level low (rows_seen [] all) (table_trie t) (table_within t) more rows t simple
-      (λ k among. ap (λ ps. has_key ps k) none)
-      (subst (λ (rs : List Row). AreLeft (rows_seen [] all) level (table_trie t) (rows_seen [] rs) (table_trie t)) parts
-      (all_left (rows_seen [] all) level (table_trie t)))
-      (ap (λ rs. with_more (table_within t) (rows_origins s (rows_seen [] rs))) parts) in
-      let same : with_entries t ((out-Table t).entries ++ entries_of s rows) ≡ full =
-      ap (λ ps. with_entries t (ps ++ entries_of s rows)) none in (
-        subst (λ (u : Table). AreLeft (rows_seen [] all) level (table_trie t) (rows_seen [] more) (table_trie u)) same
-            done.0,
-        subst (λ (u : Table). OriginsLeft s (rows_seen [] all) (table_within t) (rows_seen [] more) (table_within u))
-            same done.1,
-      )
-
-  pub others_left : AreLeft (rows_seen [] all) level (table_trie t) (rows_seen [] more) (table_trie full)
-  others_left = first_in.0
-
-  pub others_come : OriginsLeft s (rows_seen [] all) (table_within t) (rows_seen [] more) (table_within full)
-  others_come = first_in.1
+pub first_rows_in : (s level : ℕ) → level ≤ nesting_limit → (t : Table) → (out-Table t).entries ≡ []
+    → (all rows more : List Row) → all ≡ rows ++ more → are_simple level rows ≡ true
+    → FirstIn s level all more t (with_entries t (entries_of s rows))
+first_rows_in s level low t none all rows more parts simple =
+    subst (λ (u : Table). FirstIn s level all more t u) (ap (λ ps. with_entries t (ps ++ entries_of s rows)) none)
+    (rest_in s level low all more t rows t simple (λ k among. ap (λ ps. has_key ps k) none)
+    (subst (λ (rs : List Row). FirstIn s level all rs t t) parts
+    (record { left = all_left (rows_seen [] all) level (table_trie t); come = refl })))
 
 -- and all of them
 module _ (s level : ℕ) (low : level ≤ nesting_limit) (t : Table) (none : (out-Table t).entries ≡ []) (rows : List Row)
@@ -292,13 +249,13 @@ module _ (s level : ℕ) (low : level ≤ nesting_limit) (t : Table) (none : (ou
   pub rows_in : AreIn (rows_seen [] rows) level (table_trie t) (table_trie (with_entries t (entries_of s rows)))
   rows_in =
       none_left (rows_seen [] rows) level (table_trie t) (table_trie (with_entries t (entries_of s rows)))
-      (rows_are_keyed [] rows) (others_left s level low t none rows rows [] (sym (append-nil rows)) simple)
+      (rows_are_keyed [] rows) (first_rows_in s level low t none rows rows [] (sym (append-nil rows)) simple).left
 
   pub rows_come : table_within (with_entries t (entries_of s rows))
       ≡ with_more (table_within t) (rows_origins s (rows_seen [] rows))
   rows_come =
       origins_done s (rows_seen [] rows) (table_within t) (table_within (with_entries t (entries_of s rows)))
-      (others_come s level low t none rows rows [] (sym (append-nil rows)) simple)
+      (first_rows_in s level low t none rows rows [] (sym (append-nil rows)) simple).come
 
 -- the first of plain rows whose keys differ are simple
 pub first_simple : (level count : ℕ) (rows : List Row) → are_all_plain level rows ≡ true

@@ -2,7 +2,7 @@
 use Rattle.std.proofs.Common.{◌≡◌, ℕ, zero, suc, ◌+◌, ◌<◌, ◌≤◌, List, [], ◌∷◌, ◌++◌, length, get_or, ap, arith}
 use Rattle.std.proofs.Common.{refl, sym, ◌∙◌, map, take, rules, Vec, Global}
 use Rattle.std.proofs.lemmas.List.{take_more, map-append}
-use Rattle.basic_toml_value.specs.Data.{Data, Items, item, no_items, items_of, Members, no_members, member, members_of}
+use Rattle.basic_toml_value.specs.Data.{Data, items_of, Members, no_members, member, members_of}
 use Rattle.basic_toml_value.specs.Entries.{seen, texts_of}
 use Rattle.basic_toml_value.specs.Text.{text_bytes}
 use Rattle.basic_toml_value.specs.View.{view, entries}
@@ -15,10 +15,6 @@ use Rattle.basic_toml_plain.specs.Values.{section_data, sections_data, value_pai
 some_size : (members : Members) → 2 ≤ members_size members
 some_size no_members = omega arith
 some_size (member key d ms) = let more = some_size ms in omega arith
-
-some_items : (items : Items) → 1 ≤ items_size items
-some_items no_items = omega arith
-some_items (item d ds) = let more = some_items ds in omega arith
 
 -- of elements and one more, these and that one are smaller
 pub items_size-front : (ds : List Data) (d : Data) → items_size (items_of ds) ≤ items_size (items_of (ds ++ d ∷ []))

@@ -38,9 +38,7 @@ parts_from at rows s ss first =
     and_from _ _ (and_from _ _ start (and_from _ _ within first.few)) first.others
 
 no_rows : (at : ℕ) (rows : List Row) → are_parts at rows [] ≡ true → rows ≡ []
-no_rows at rows are =
-    let none : length rows ≡ 0 = grind (arith, are) in
-    nil_from_length rows none
+no_rows at rows are = nil_from_length rows (grind (arith, are))
 
 -- the last section takes all rows that are left
 last_takes_all : (at : ℕ) (rows : List Row) (s : SectionRows) → are_parts at rows (s ∷ []) ≡ true
@@ -67,15 +65,12 @@ pub are_parts_push : (at : ℕ) (rows more : List Row) (ss : List SectionRows) (
     → are_few_simple 0 more ≡ true → are_parts at (rows ++ more) (ss ++ s ∷ []) ≡ true
 are_parts_push at rows more [] s are start count few =
     let none = no_rows at rows are in
-    let all : rows ++ more ≡ more = ap (λ rs. rs ++ more) none in
-    let taken : take s.count more ≡ more = take_all s.count more (omega (arith, count)) in
-    let left : drop s.count more ≡ [] = drop_all s.count more (omega (arith, count)) in
-    ap (λ rs. are_parts at rs (s ∷ [])) all
+    ap (λ rs. are_parts at (rs ++ more) (s ∷ [])) none
     ∙ parts_from at more s [] (record {
       start = omega (arith, start, ap length none);
       within = omega (arith, count);
-      few = ap (are_few_simple 0) taken ∙ few;
-      others = ap (λ rs. are_parts (at + s.count) rs []) left;
+      few = ap (are_few_simple 0) (take_all s.count more (omega (arith, count))) ∙ few;
+      others = ap (λ rs. are_parts (at + s.count) rs []) (drop_all s.count more (omega (arith, count)));
     })
 are_parts_push at rows more (t ∷ ss) s are start count few =
     let first = first_part at rows t ss are in
@@ -124,33 +119,24 @@ stands_at at rows (t ∷ ss) (suc n) s are there =
       few = ap (λ rs. are_few_simple 0 (take s.count rs)) (sym further) ∙ other.few;
     }
 
--- and those of the last one
-record LatestPart (at : ℕ) (rows : List Row) (ss : List SectionRows) (s : SectionRows) : Type 0 where
-  pub from : ℕ
-  pub start : s.start ≡ at + from
-  pub tables : parts rows (ss ++ s ∷ []) ≡ parts rows ss ++ (s.section, drop from rows) ∷ []
-
+-- and those of the last one, which are all from its start on
 latest_part : (at : ℕ) (rows : List Row) (ss : List SectionRows) (s : SectionRows)
-    → are_parts at rows (ss ++ s ∷ []) ≡ true → LatestPart at rows ss s
+    → are_parts at rows (ss ++ s ∷ []) ≡ true
+    → (from : ℕ) × (s.start ≡ at + from)
+    × (parts rows (ss ++ s ∷ []) ≡ parts rows ss ++ (s.section, drop from rows) ∷ [])
 latest_part at rows [] s are =
     let first = first_part at rows s [] are in
-    record {
-      from = 0;
-      start = omega (arith, first.start);
-      tables = ap (λ (rs : List Row). (s.section, rs) ∷ []) (last_takes_all at rows s are);
-    }
+    (0, omega (arith, first.start), ap (λ (rs : List Row). (s.section, rs) ∷ []) (last_takes_all at rows s are))
 latest_part at rows (t ∷ ss) s are =
     let first = first_part at rows t (ss ++ s ∷ []) are in
     let other = latest_part (at + t.count) (drop t.count rows) ss s first.others in
-    let here : SectionTable = (t.section, take t.count rows) in
-    record {
-      from = t.count + other.from;
-      start = omega (arith, other.start);
-      tables =
-          ap (λ ts. here ∷ ts) other.tables
+    let here : SectionTable = (t.section, take t.count rows) in (
+      t.count + other.0,
+      omega (arith, other.1),
+      ap (λ ts. here ∷ ts) other.2
           ∙ ap (λ (rs : List Row). here ∷ parts (drop t.count rows) ss ++ (s.section, rs) ∷ [])
-          (drop-drop other.from t.count rows);
-    }
+          (drop-drop other.0 t.count rows),
+    )
 
 parts_count : (rows : List Row) (ss : List SectionRows) → length (parts rows ss) ≡ length ss
 parts_count rows [] = refl
@@ -162,8 +148,8 @@ module _ (rows : List Row) (ss : List SectionRows) (s : SectionRows) (was : Sect
   pub all_tables : parts rows (ss ++ s ∷ []) ≡ tables_in was
   all_tables =
       let latest = latest_part 0 rows ss s are in
-      let from : latest.from ≡ s.start = omega (arith, latest.start) in
-      latest.tables ∙ ap (λ n. parts rows ss ++ (s.section, drop n rows) ∷ []) from ∙ ap tables_in seen
+      let from : latest.0 ≡ s.start = omega (arith, latest.1) in
+      latest.2 ∙ ap (λ n. parts rows ss ++ (s.section, drop n rows) ∷ []) from ∙ ap tables_in seen
 
   pub tables_count : length (tables_in was) ≡ length ss + 1
   tables_count = sym (ap length all_tables) ∙ parts_count rows (ss ++ s ∷ []) ∙ length_push ss s

@@ -1,6 +1,12 @@
 -- Plain elements and simple rows, one after another: each of them is plain, and so are those that are left.
-use Rattle.std.proofs.Common.{◌≡◌, ◌<◌, ℕ, zero, suc, true, List, [], ◌∷◌, length, get_or, sym, ap, ◌∙◌, arith}
+use Rattle.std.proofs.Common.{◌≡◌, ◌<◌, ℕ, zero, suc, Bool, true, List, [], ◌∷◌, ◌++◌, length, get_or, map}
+use Rattle.std.proofs.Common.{Vec, Global, sym, ap, ◌∙◌, arith}
+use Rattle.std.specs.List.{list_all}
 use Rattle.std.proofs.lemmas.Bool.{and_parts}
+use Rattle.basic_toml_value.specs.Data.{items_of}
+use Rattle.basic_toml_value.specs.View.{view}
+use Rattle.basic_toml_value.specs.declared.value.Value.{Value}
+use Rattle.basic_toml_value.proofs.Sizes.{data_size, items_size}
 use Rattle.basic_toml_grammar.specs.Mentions.{finished}
 use Rattle.basic_toml_read.specs.SectionView.{Placed}
 use Rattle.basic_toml_read.specs.declared.section.Element.{Element, out-Element}
@@ -8,36 +14,47 @@ use Rattle.basic_toml_read.specs.declared.section.Row.{Row, out-Row}
 use Rattle.basic_toml_plain.specs.Plain.{is_plain, is_plain_element, are_plain, are_simple, plain_data, element_data}
 use Rattle.basic_toml_plain.proofs.PlainSeen.{element_is}
 use Rattle.basic_toml_read.proofs.ViewsSeen.{placed_is}
-use Rattle.basic_toml_plain.proofs.SimpleKeys.{FirstIsSimple, first_is_simple}
+use Rattle.basic_toml_plain.proofs.SimpleKeys.{simple_are_plain}
+use Rattle.basic_toml_plain.proofs.DataParts.{items_size-rest}
+use Rattle.basic_toml_plain.proofs.WhatIsLeft.{IsMovedSoFar}
 
 -- the data of an element are those of its value
 pub element_value : (e : Element) → element_data e ≡ plain_data (out-Element e).value
 element_value e = ap (λ (p : Placed). finished p.value) (placed_is e)
 
--- the first of the elements that are left, and the others
-pub element_left : (es rest : List Element) (e : Element) → es ≡ e ∷ rest → are_plain 0 es ≡ true
-    → (is_plain (out-Element e).value 0 ≡ true) × (are_plain 0 rest ≡ true)
-element_left es rest e left plain =
-    let p = and_parts (is_plain_element e 0) (are_plain 0 rest) (ap (are_plain 0) (sym left) ∙ plain) in
-    (sym (element_is e 0) ∙ p.0, p.1)
+-- the first of the elements that are left, which is smaller than all, and the others
+pub record FirstElement (e : Element) (rest all : List Element) : Type 0 where
+  pub plain : is_plain (out-Element e).value 0 ≡ true
+  pub others : are_plain 0 rest ≡ true
+  pub smaller : data_size (plain_data (out-Element e).value) < items_size (items_of (map element_data all))
 
--- an element at an index
+pub element_left : {moved : Vec Value Global} {es rest whole all : List Element} {e : Element} → es ≡ e ∷ rest
+    → whole ≡ all → IsMovedSoFar view element_data (are_plain 0) moved es whole → FirstElement e rest all
+element_left {moved} {es} {rest} {whole} {all} {e} left start so_far =
+    let p = and_parts (is_plain_element e 0) (are_plain 0 rest) (ap (are_plain 0) (sym left) ∙ so_far.fit) in
+    let made = ap (λ es. map view moved.items ++ map element_data es) (sym left) ∙ so_far.made
+    ∙ ap (map element_data) start in
+    let less = items_size-rest (map view moved.items) element_data e rest all made in
+    record {
+      plain = sym (element_is e 0) ∙ p.0;
+      others = p.1;
+      smaller = omega (arith, less, ap data_size (element_value e));
+    }
+
+-- one at an index
+all_at : {A : Type 0} (p : A → Bool) (xs : List A) (i : ℕ) (x : A) → i < length xs → x ≡ get_or xs i x
+    → list_all p xs ≡ true → p x ≡ true
+all_at p [] i x within read all = absurd (omega arith)
+all_at p (y ∷ ys) zero x within read all = ap p read ∙ (and_parts (p y) (list_all p ys) all).0
+all_at p (y ∷ ys) (suc i) x within read all =
+    all_at p ys i x (omega arith) read (and_parts (p y) (list_all p ys) all).1
+
 pub element_at : (es : List Element) (i : ℕ) (e : Element) → i < length es → e ≡ get_or es i e → are_plain 0 es ≡ true
     → is_plain (out-Element e).value 0 ≡ true
-element_at [] i e within read plain = absurd (omega arith)
-element_at (x ∷ es) zero e within read plain =
-    (element_left (x ∷ es) es e (ap (λ x. x ∷ es) (sym read)) plain).0
-element_at (x ∷ es) (suc i) e within read plain =
-    element_at es i e (omega arith) read (and_parts (is_plain_element x 0) (are_plain 0 es) plain).1
+element_at es i e within read plain =
+    sym (element_is e 0) ∙ all_at (λ e. is_plain_element e 0) es i e within read plain
 
--- the first of the rows that are left, and the others
-pub row_left : (rs rest : List Row) (r : Row) → rs ≡ r ∷ rest → are_simple 0 rs ≡ true → FirstIsSimple 0 r rest
-row_left rs rest r left simple = first_is_simple 0 r rest (ap (are_simple 0) (sym left) ∙ simple)
-
--- a row at an index
 pub row_at : (rs : List Row) (i : ℕ) (r : Row) → i < length rs → r ≡ get_or rs i r → are_simple 0 rs ≡ true
     → is_plain (out-Row r).value 0 ≡ true
-row_at [] i r within read simple = absurd (omega arith)
-row_at (x ∷ rs) zero r within read simple = (row_left (x ∷ rs) rs r (ap (λ x. x ∷ rs) (sym read)) simple).plain
-row_at (x ∷ rs) (suc i) r within read simple =
-    row_at rs i r (omega arith) read (first_is_simple 0 x rs simple).others
+row_at rs i r within read simple =
+    all_at (λ r. is_plain (out-Row r).value 0) rs i r within read (simple_are_plain 0 rs simple)

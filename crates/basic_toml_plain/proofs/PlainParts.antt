@@ -1,19 +1,15 @@
 -- How many parts a value has at all depths, of those that are looked through to tell whether it is plain.
-use Rattle.std.proofs.Common.{◌≡◌, ℕ, zero, suc, ◌+◌, ◌<◌, List, [], ◌∷◌, length, map, get_or, sym, ap, ◌∙◌}
-use Rattle.std.proofs.Common.{arith, rules}
+use Rattle.std.proofs.Common.{◌≡◌, ℕ, ◌+◌, ◌<◌, List, length, map, get_or, sum, ap, arith, rules}
+use Rattle.std.proofs.lemmas.List.Sums.{get_or-le-sum_by, sum-map}
 use Rattle.basic_toml_read.specs.declared.section.Raw.{Raw, fold-Raw, the_lemmas}
 use Rattle.basic_toml_read.specs.declared.section.Raw.TheOpen.{Raw-F, Element-F, Row-F, Rows-F}
 use Rattle.basic_toml_read.specs.declared.section.Element.{Element, out-Element, fold-Element}
 use Rattle.basic_toml_read.specs.declared.section.Row.{Row, fold-Row}
 
-abbrev total : List ℕ → ℕ
-total [] = 0
-total (n ∷ ns) = n + total ns
-
 -- one level, the parts seen already
 abbrev raw_parts : Raw-F ℕ ℕ ℕ ℕ → ℕ
-raw_parts (Raw-F.Array es) = total es.items + 3
-raw_parts (Raw-F.Inline rs) = total rs.items + 3
+raw_parts (Raw-F.Array es) = sum es.items + 3
+raw_parts (Raw-F.Inline rs) = sum rs.items + 3
 raw_parts _ = 0
 
 abbrev element_parts : Element-F ℕ ℕ ℕ ℕ → ℕ
@@ -35,22 +31,15 @@ abbrev parts_of_row : Row → ℕ
 parts_of_row = fold-Row ℕ ℕ ℕ ℕ raw_parts element_parts row_parts rows_parts
 
 abbrev pub parts_of_elements : List Element → ℕ
-parts_of_elements es = total (map parts_of_element es)
+parts_of_elements es = sum (map parts_of_element es)
 
 abbrev pub parts_of_rows : List Row → ℕ
-parts_of_rows rs = total (map parts_of_row rs)
+parts_of_rows rs = sum (map parts_of_row rs)
 
--- and elements and rows more than each value among them
-value_of_element : (e : Element) → parts_of_element e ≡ parts_of (out-Element e).value + 1
-value_of_element e = search (rules, the_lemmas)
-
+-- and elements more than each value among them
 pub element_fewer : (es : List Element) (i : ℕ) (e : Element) → i < length es → e ≡ get_or es i e
     → parts_of (out-Element e).value < parts_of_elements es
-element_fewer [] i e within is = absurd (omega (arith, within))
-element_fewer (x ∷ es) zero e within is =
-    let parts : parts_of_element x ≡ parts_of (out-Element e).value + 1 =
-    ap parts_of_element (sym is) ∙ value_of_element e in
-    omega (arith, parts)
-element_fewer (x ∷ es) (suc i) e within is =
-    let fewer = element_fewer es i e (omega (arith, within)) is in
-    omega (arith, fewer)
+element_fewer es i e within is =
+    let parts : parts_of_element e ≡ parts_of (out-Element e).value + 1 = search (rules, the_lemmas) in
+    let whole = sum-map parts_of_element es in
+    omega (arith, parts, ap parts_of_element is, get_or-le-sum_by parts_of_element es i e within, whole)

@@ -3,6 +3,7 @@ use Rattle.std.proofs.Common.{◌≡◌, ℕ, ◌+◌, Bool, List, [], ◌∷◌
 use Rattle.std.specs.Prelude.{◌&&◌, nat_lt, nat_le, not}
 use Rattle.std.specs.List.{list_all}
 use Rattle.std.proofs.lemmas.List.{length-map}
+use Rattle.std.proofs.lemmas.List.Folds.{list_all-map}
 use Rattle.basic_toml_value.specs.Data.{Data, item, items_of}
 use Rattle.basic_toml_value.specs.Nesting.{nesting_limit}
 use Rattle.basic_toml_index.specs.Index.{few}
@@ -37,18 +38,13 @@ simple_step l r rs =
     ∙ ap (λ ks. (is_plain (out-Row r).value l && not (is_among ks (key_of r))) && are_simple l rs) (keys_same rs)
 
 -- an array
-all_mapped : {A B : Type 0} (f : A → B) (p : B → Bool) (xs : List A)
-    → list_all p (map f xs) ≡ list_all (λ x. p (f x)) xs
-all_mapped f p [] = refl
-all_mapped f p (x ∷ xs) = ap (λ b. p (f x) && b) (all_mapped f p xs)
-
 pub array_is : (es : Vec Element Global) (l : ℕ)
     → is_plain (Array es) l ≡ (nat_lt l nesting_limit && are_plain (l + 1) es.items)
 array_is es l =
     let here : is_plain (Array es) l
     ≡ (nat_lt l nesting_limit && list_all (λ e. e (l + 1)) (map is_plain_element es.items))
     = search (rules, the_lemmas) in
-    here ∙ ap (λ b. nat_lt l nesting_limit && b) (all_mapped is_plain_element (λ e. e (l + 1)) es.items)
+    here ∙ ap (λ b. nat_lt l nesting_limit && b) (list_all-map (λ (e : ℕ → Bool). e (l + 1)) is_plain_element es.items)
 
 pub elements_finished : (es : List Element) → finished_elements (elements_view es) ≡ items_of (map element_data es)
 elements_finished [] = refl

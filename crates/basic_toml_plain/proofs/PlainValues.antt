@@ -2,12 +2,11 @@
 -- at each lower level too.
 use Rattle.std.proofs.Common.{◌≡◌, ◌≤◌, ℕ, ◌+◌, true, false, List, [], ◌∷◌, map, refl, sym, ap}
 use Rattle.std.proofs.Common.{◌∙◌, subst, arith, rules, length, Vec, Global}
-use Rattle.std.specs.Prelude.{⊤, nat_lt, nat_le, max, string_bytes}
+use Rattle.std.specs.Prelude.{⊤, nat_lt, nat_le}
 use Rattle.std.proofs.lemmas.Bool.{false≢true, and_parts}
 use Rattle.basic_toml_value.specs.Nesting.{nesting_limit}
 use Rattle.basic_toml_index.specs.Index.{few}
 use Rattle.basic_toml_grammar.specs.Sections.{element}
-use Rattle.basic_toml_grammar.specs.Sections as sections
 use Rattle.basic_toml_grammar.specs.Levels.{value_level, elements_level, rows_level}
 use Rattle.basic_toml_grammar.specs.RowClash.{value_clashes, elements_clash, rows_clash}
 use Rattle.basic_toml_read.specs.declared.section.Raw.{Raw, Array, Inline, map-Raw, ind-Raw, roll-Raw, the_lemmas}
@@ -50,9 +49,6 @@ OfElement e = OfRaw (out-Element e).value
 abbrev OfRow : Row → Type 0
 OfRow r = OfRaw (out-Row r).value
 
-abbrev OfRows : Rows → Type 0
-OfRows rs = ⊤
-
 abbrev AllOf : List Element → Type 0
 AllOf es = (l : ℕ) → are_plain l es ≡ true → AllPlainAt l es
 
@@ -60,10 +56,6 @@ abbrev SimpleOf : List Row → Type 0
 SimpleOf rs = (l : ℕ) → are_simple l rs ≡ true → AllSimpleAt l rs
 
 -- elements, one after another
-first_element : (e : Element) (es : List Element)
-    → elements_view (e ∷ es) ≡ element (out-Element e).offset (raw_of (out-Element e).value) (elements_view es)
-first_element e es = ap (λ (p : Placed). element p.offset p.value (elements_view es)) (placed_is e)
-
 none_plain : AllOf []
 none_plain l plain = record { apart = refl; fit = omega arith; lower = λ k low. refl }
 
@@ -72,15 +64,11 @@ one_more e es here there l plain =
     let p = and_parts (is_plain_element e l) (are_plain l es) plain in
     let a : PlainAt l (out-Element e).value = here l (sym (element_is e l) ∙ p.0) in
     let b : AllPlainAt l es = there l p.1 in
-    let seen = first_element e es in
-    let low = a.fits in
-    let lows = b.fit in
-    let level : elements_level l (elements_view (e ∷ es))
-    ≡ max (value_level l (raw_of (out-Element e).value)) (elements_level l (elements_view es))
-    = ap (elements_level l) seen in
+    let seen : elements_view (e ∷ es) ≡ element (out-Element e).offset (raw_of (out-Element e).value) (elements_view es)
+    = ap (λ (p : Placed). element p.offset p.value (elements_view es)) (placed_is e) in
     record {
       apart = ap elements_clash seen ∙ rw (a.apart, b.apart) refl;
-      fit = omega (arith, level, low, lows);
+      fit = omega (arith, ap (elements_level l) seen, a.fits, b.fit);
       lower = λ k low. rw (element_is e k ∙ a.lower k low, b.lower k low) refl;
     }
 
@@ -97,49 +85,40 @@ one_more_row r rs here there l simple =
     let seen = lone_first r rs in
     record {
       apart = ap rows_clash seen ∙ rw (overlaps_are_keys (key_of r) rs first.apart, a.apart, b.apart) refl;
-      fit = λ within.
-          let low = a.fits in
-          let lows = b.fit within in
-          let level = first_level l r rs in
-          omega (arith, level, low, lows, within);
+      fit = λ within. omega (arith, first_level l r rs, a.fits, b.fit within, within);
       lower = λ k low. simple_step k r rs ∙ rw (a.lower k low, first.apart, b.lower k low) refl;
     }
 
-all_of : (es : List ((e : Element) × OfElement e)) → AllOf (map (λ e. e.0) es)
-all_of [] = none_plain
-all_of (e ∷ es) = one_more e.0 (map (λ (e : (e : Element) × OfElement e). e.0) es) e.1 (all_of es)
+-- something of which this holds
+abbrev With : {A : Type 0} → (A → Type 0) → Type 0
+With {A} P = (x : A) × P x
 
-simple_of : (rs : List ((r : Row) × OfRow r)) → SimpleOf (map (λ r. r.0) rs)
+all_of : (es : List (With OfElement)) → AllOf (map (λ e. e.0) es)
+all_of [] = none_plain
+all_of (e ∷ es) = one_more e.0 (map (λ (e : With OfElement). e.0) es) e.1 (all_of es)
+
+simple_of : (rs : List (With OfRow)) → SimpleOf (map (λ r. r.0) rs)
 simple_of [] = none_simple
-simple_of (r ∷ rs) = one_more_row r.0 (map (λ (r : (r : Row) × OfRow r). r.0) rs) r.1 (simple_of rs)
+simple_of (r ∷ rs) = one_more_row r.0 (map (λ (r : With OfRow). r.0) rs) r.1 (simple_of rs)
 
 -- a level below a lower one
 still_below : (k l : ℕ) → k ≤ l → nat_lt l nesting_limit ≡ true → nat_lt k nesting_limit ≡ true
 still_below k l low below = grind (arith, low, below)
 
 -- each form of a value
-scalar : (r : Raw) (v : sections.Raw) → raw_of r ≡ v → ((k : ℕ) → is_plain r k ≡ true) → value_clashes v ≡ false
-    → ((l : ℕ) → value_level l v ≡ 0) → OfRaw r
-scalar r v is plain apart level l _ =
-    let none : value_level l (raw_of r) ≡ 0 = ap (value_level l) is ∙ level l in
-    record {
-      apart = ap value_clashes is ∙ apart;
-      fits = omega (arith, none);
-      lower = λ k low. plain k;
-    }
+scalar : (r : Raw) → value_clashes (raw_of r) ≡ false → ((l : ℕ) → value_level l (raw_of r) ≡ 0)
+    → ((k : ℕ) → is_plain r k ≡ true) → OfRaw r
+scalar r apart level plain l _ =
+    record { apart = apart; fits = omega (arith, level l); lower = λ k low. plain k }
 
 array_plain : (es : Vec Element Global) → AllOf es.items → OfRaw (Array es)
 array_plain es parts l plain =
     let p = and_parts (nat_lt l nesting_limit) (are_plain (l + 1) es.items) (sym (array_is es l) ∙ plain) in
     let all : AllPlainAt (l + 1) es.items = parts (l + 1) p.1 in
     let within : l + 1 ≤ nesting_limit = grind (arith, p.0) in
-    let lows = all.fit in
-    let is : raw_of (Array es) ≡ sections.Raw.array (elements_view es.items) = array_of es in
-    let level : value_level l (raw_of (Array es)) ≡ max (l + 1) (elements_level (l + 1) (elements_view es.items))
-    = ap (value_level l) is in
     record {
-      apart = ap value_clashes is ∙ all.apart;
-      fits = omega (arith, level, within, lows);
+      apart = ap value_clashes (array_of es) ∙ all.apart;
+      fits = omega (arith, ap (value_level l) (array_of es), within, all.fit);
       lower = λ k low. array_is es k ∙ rw (still_below k l low p.0, all.lower (k + 1) (omega (arith, low))) refl;
     }
 
@@ -149,13 +128,9 @@ table_plain rs parts l plain =
     let q = and_parts (nat_le (length rs.items) few) (are_simple (l + 1) rs.items) p.1 in
     let all : AllSimpleAt (l + 1) rs.items = parts (l + 1) q.1 in
     let within : l + 1 ≤ nesting_limit = grind (arith, p.0) in
-    let lows = all.fit within in
-    let is : raw_of (Inline rs) ≡ sections.Raw.inline (rows_seen [] rs.items) = inline_of rs in
-    let level : value_level l (raw_of (Inline rs)) ≡ max (l + 1) (rows_level (l + 1) (rows_seen [] rs.items))
-    = ap (value_level l) is in
     record {
-      apart = ap value_clashes is ∙ all.apart;
-      fits = omega (arith, level, within, lows);
+      apart = ap value_clashes (inline_of rs) ∙ all.apart;
+      fits = omega (arith, ap (value_level l) (inline_of rs), within, all.fit within);
       lower = λ k low. inline_is rs k
           ∙ rw (still_below k l low p.0, q.0, all.lower (k + 1) (omega (arith, low))) refl;
     }
@@ -169,72 +144,37 @@ raw_is : (x : Raw-F Raw Element Row Rows) → Parts x → OfRaw (roll-Raw x)
 raw_is (Raw-F.Dotted rs) parts l plain =
     let never : is_plain (roll-Raw (Raw-F.Dotted rs)) l ≡ false = search (rules, the_lemmas) in
     absurd (false≢true (sym never ∙ plain))
-raw_is (Raw-F.Integer z) parts l plain =
-    scalar (roll-Raw (Raw-F.Integer z)) (sections.Raw.integer z) (search (rules, the_lemmas))
-    (λ k. search (rules, the_lemmas)) refl (λ l. refl) l plain
-raw_is (Raw-F.Float text) parts l plain =
-    scalar (roll-Raw (Raw-F.Float text)) (sections.Raw.float text) (search (rules, the_lemmas))
-    (λ k. search (rules, the_lemmas)) refl (λ l. refl) l plain
-raw_is Raw-F.True parts l plain =
-    scalar (roll-Raw Raw-F.True) (sections.Raw.boolean true) (search (rules, the_lemmas))
-    (λ k. search (rules, the_lemmas)) refl (λ l. refl) l plain
-raw_is Raw-F.False parts l plain =
-    scalar (roll-Raw Raw-F.False) (sections.Raw.boolean false) (search (rules, the_lemmas))
-    (λ k. search (rules, the_lemmas)) refl (λ l. refl) l plain
-raw_is (Raw-F.String text) parts l plain =
-    scalar (roll-Raw (Raw-F.String text)) (sections.Raw.string text.now false) (search (rules, the_lemmas))
-    (λ k. search (rules, the_lemmas)) refl (λ l. refl) l plain
-raw_is (Raw-F.Escaped text) parts l plain =
-    scalar (roll-Raw (Raw-F.Escaped text)) (sections.Raw.string (string_bytes text) true) (search (rules, the_lemmas))
-    (λ k. search (rules, the_lemmas)) refl (λ l. refl) l plain
 raw_is (Raw-F.Array es) parts l plain =
     let made : roll-Raw (Raw-F.Array es) ≡ Array es = search (rules, the_lemmas) in
     subst OfRaw (sym made) (array_plain es parts) l plain
 raw_is (Raw-F.Inline rs) parts l plain =
     let made : roll-Raw (Raw-F.Inline rs) ≡ Inline rs = search (rules, the_lemmas) in
     subst OfRaw (sym made) (table_plain rs parts) l plain
+raw_is x parts l plain =
+    scalar (roll-Raw x) (search (rules, the_lemmas)) (λ l. search (rules, the_lemmas)) (λ k. search (rules, the_lemmas))
+    l plain
 
-abbrev Raw1 : Type 0
-Raw1 = (v : Raw) × OfRaw v
-
-abbrev Element1 : Type 0
-Element1 = (e : Element) × OfElement e
-
-abbrev Row1 : Type 0
-Row1 = (r : Row) × OfRow r
-
-abbrev Rows1 : Type 0
-Rows1 = (rs : Rows) × OfRows rs
-
-parts_are : (y : Raw-F Raw1 Element1 Row1 Rows1)
-    → Parts (map-Raw Raw1 Element1 Row1 Rows1 Raw Element Row Rows (λ e. e.0) (λ e. e.0) (λ e. e.0) (λ e. e.0) y)
-parts_are (Raw-F.Integer z) = tt
-parts_are (Raw-F.Float text) = tt
-parts_are Raw-F.True = tt
-parts_are Raw-F.False = tt
-parts_are (Raw-F.String text) = tt
-parts_are (Raw-F.Escaped text) = tt
+parts_are : (y : Raw-F (With OfRaw) (With OfElement) (With OfRow) (With (λ (rs : Rows). ⊤)))
+    → Parts (map-Raw (With OfRaw) (With OfElement) (With OfRow) (With (λ (rs : Rows). ⊤)) Raw Element Row Rows
+    (λ e. e.0) (λ e. e.0) (λ e. e.0) (λ e. e.0) y)
 parts_are (Raw-F.Array es) = all_of es.items
 parts_are (Raw-F.Inline rs) = simple_of rs.items
-parts_are (Raw-F.Dotted rs) = tt
+parts_are _ = tt
 
-every_value : (r : Raw) → OfRaw r
-every_value =
-    ind-Raw OfRaw OfElement OfRow OfRows (λ x y is. raw_is x (subst Parts is (parts_are y)))
+pub plain_value : (r : Raw) (l : ℕ) → is_plain r l ≡ true → PlainAt l r
+plain_value =
+    ind-Raw OfRaw OfElement OfRow (λ rs. ⊤) (λ x y is. raw_is x (subst Parts is (parts_are y)))
     (λ x y is. subst (λ e. OfRaw e.value) (sym (out-roll-Element x)) (subst (λ z. OfRaw z.value) is y.value.1))
     (λ x y is. subst (λ r. OfRaw r.value) (sym (out-roll-Row x)) (subst (λ z. OfRaw z.value) is y.value.1))
     (λ x y is. tt)
 
-pub plain_value : (r : Raw) (l : ℕ) → is_plain r l ≡ true → PlainAt l r
-plain_value r = every_value r
-
 pub all_plain : (es : List Element) (l : ℕ) → are_plain l es ≡ true → AllPlainAt l es
 all_plain [] = none_plain
-all_plain (e ∷ es) = one_more e es (every_value (out-Element e).value) (all_plain es)
+all_plain (e ∷ es) = one_more e es (plain_value (out-Element e).value) (all_plain es)
 
 pub all_simple : (rs : List Row) (l : ℕ) → are_simple l rs ≡ true → AllSimpleAt l rs
 all_simple [] = none_simple
-all_simple (r ∷ rs) = one_more_row r rs (every_value (out-Row r).value) (all_simple rs)
+all_simple (r ∷ rs) = one_more_row r rs (plain_value (out-Row r).value) (all_simple rs)
 
 -- at the lowest level
 pub value_lower : (r : Raw) (l : ℕ) → is_plain r l ≡ true → is_plain r 0 ≡ true

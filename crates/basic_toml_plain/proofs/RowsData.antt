@@ -23,7 +23,7 @@ use Rattle.basic_toml_grammar.specs.Trie.{Trie, trie, Tries, no_tries, by, among
 use Rattle.basic_toml_grammar.specs.Trie.{bare_tries}
 use Rattle.basic_toml_grammar.proofs.Tries.RowsInATrie.{rows_in, rows_go_below, inline_data}
 use Rattle.basic_toml_read.specs.declared.section.Raw.{Inline}
-use Rattle.basic_toml_read.specs.declared.section.Row.{Row, out-Row}
+use Rattle.basic_toml_read.specs.declared.section.Row.{Row}
 use Rattle.basic_toml_read.specs.SectionView.{rows_seen}
 use Rattle.basic_toml_read.proofs.RowsHaveKeys.{rows_are_keyed}
 use Rattle.basic_toml_plain.specs.Plain.{are_simple, are_few_simple, key_of, plain_data, rows_data}
@@ -32,7 +32,7 @@ use Rattle.basic_toml_plain.specs.Values.{row_pair, section_data, value_pair}
 use Rattle.basic_toml_plain.proofs.LoneRows.{lone_first}
 use Rattle.basic_toml_plain.proofs.PlainSeen.{inline_of}
 use Rattle.basic_toml_plain.proofs.PlainValues.{all_simple}
-use Rattle.basic_toml_plain.proofs.SimpleKeys.{first_is_simple, keys_differ}
+use Rattle.basic_toml_plain.proofs.SimpleKeys.{few_are_simple, first_is_simple, keys_differ}
 use Rattle.basic_toml_plain.proofs.DataParts.{entries_seen, table_seen, value_keys}
 
 -- the data at keys
@@ -52,24 +52,20 @@ rows_agree [] = refl
 rows_agree (r ∷ rs) = ap (λ ps. row_pair r ∷ ps) (rows_agree rs)
 
 -- what stands at a key that none of the rows has is left as it is
+then_mapped : {A : Type 0} (f : A → A) (g : A → Option A) → ((a : A) → g (f a) ≡ option_map f (g a))
+    → (o : Option A) → and_then (option_map f o) g ≡ option_map f (and_then o g)
+then_mapped f g same None = refl
+then_mapped f g same (Some a) = same a
+
 rows_beside : (k : List ℕ) (t : Trie) (rs : List Row) (ts : Tries) → is_among (map key_of rs) k ≡ false
     → rows_in (rows_seen [] rs) (by (key k) t ts) ≡ option_map (λ ts. by (key k) t ts) (rows_in (rows_seen [] rs) ts)
 rows_beside k t [] ts absent = refl
 rows_beside k t (r ∷ rs) ts absent =
     let p = or_parts (bytes_eq k (key_of r)) (is_among (map key_of rs) k) absent in
     ap (λ rows. rows_in rows (by (key k) t ts)) (lone_first r rs)
-    ∙ rw p.0 (then_beside (λ us. rows_beside k t rs us p.1)
-    (among (key (key_of r)) (λ t. mark_here (valued (plain_data (out-Row r).value)) t) ts))
+    ∙ rw p.0 (then_mapped (λ ts. by (key k) t ts) (λ ts. rows_in (rows_seen [] rs) ts)
+    (λ us. rows_beside k t rs us p.1) (among (key (key_of r)) (λ t. mark_here (valued (row_pair r).1) t) ts))
     ∙ sym (ap (λ rows. option_map (λ ts. by (key k) t ts) (rows_in rows ts)) (lone_first r rs))
-  where
-    then_beside : ((us : Tries)
-        → rows_in (rows_seen [] rs) (by (key k) t us)
-        ≡ option_map (λ ts. by (key k) t ts) (rows_in (rows_seen [] rs) us))
-        → (o : Option Tries)
-        → and_then (option_map (λ ts. by (key k) t ts) o) (λ ts. rows_in (rows_seen [] rs) ts)
-        ≡ option_map (λ ts. by (key k) t ts) (and_then o (λ ts. rows_in (rows_seen [] rs) ts))
-    then_beside beside None = refl
-    then_beside beside (Some us) = beside us
 
 -- rows whose keys differ stand one after another
 rows_stand : (l : ℕ) (rs : List Row) → are_simple l rs ≡ true
@@ -81,22 +77,18 @@ rows_stand l (r ∷ rs) simple =
     ∙ rows_beside (key_of r) (row_trie r).1 rs no_tries first.apart
     ∙ ap (option_map (λ ts. by (key (key_of r)) (row_trie r).1 ts)) (rows_stand l rs first.others)
 
--- the data of simple rows
-rows_data_is : (l : ℕ) (rs : List Row) → are_simple l rs ≡ true
+-- the data of few simple rows, and of an inline table of them
+pub few_data : (rs : List Row) → are_few_simple 0 rs ≡ true
     → rows_data rs ≡ Data.table (members_of (map row_pair rs))
-rows_data_is l rs simple =
+few_data rs few_simple =
+    let simple = few_are_simple 0 rs few_simple in
     let rows = rows_seen [] rs in
     let keyed = rows_are_keyed [] rs in
     let after = trie None None (by_keys (map row_trie rs)) in
     let put : put_rows rows (trie None None no_tries) ≡ Some after =
-    rows_go_below rows None None no_tries keyed ∙ ap (λ ts. with_tries None None ts) (rows_stand l rs simple) in
-    sym (inline_data rows None after keyed (all_simple rs l simple).apart put)
+    rows_go_below rows None None no_tries keyed ∙ ap (λ ts. with_tries None None ts) (rows_stand 0 rs simple) in
+    sym (inline_data rows None after keyed (all_simple rs 0 simple).apart put)
     ∙ keys_data None (map row_trie rs) ∙ ap (λ ps. Data.table (members_of ps)) (rows_agree rs)
-
--- and of an inline table of them
-pub few_data : (rs : List Row) → are_few_simple 0 rs ≡ true
-    → rows_data rs ≡ Data.table (members_of (map row_pair rs))
-few_data rs simple = rows_data_is 0 rs (and_parts (nat_le (length rs) few) (are_simple 0 rs) simple).1
 
 pub inline_rows : (rs : Vec Row Global) → plain_data (Inline rs) ≡ rows_data rs.items
 inline_rows rs = ap finished (inline_of rs)
@@ -120,7 +112,5 @@ few_indexed copies rows index none simple same =
 pub values_seen : (table : List (List ℕ × Value)) (copies : List (Pair Value)) (rows : List Row) → table ≡ seen copies
     → map value_pair copies ≡ map row_pair rows → view (Table table) ≡ section_data rows
 values_seen table copies rows is same =
-    table_seen table
-    ∙ ap (λ ps. Data.table (entries ps)) is
-    ∙ ap Data.table (entries_seen copies)
-    ∙ ap (λ ps. Data.table (members_of ps)) same
+    table_seen table ∙ ap (λ ps. Data.table (entries ps)) is
+    ∙ ap Data.table (entries_seen copies ∙ ap members_of same)

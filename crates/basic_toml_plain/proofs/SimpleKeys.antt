@@ -1,16 +1,12 @@
 -- Simple rows: what each of them is, and that their keys differ.
 use Rattle.std.proofs.Common.{◌≡◌, ◌∙◌, ℕ, Bool, true, false, not, List, [], ◌∷◌, map, length, refl, sym, ap}
 use Rattle.std.specs.Prelude.{◌&&◌, nat_le}
-use Rattle.std.proofs.lemmas.Bool.{and_parts}
+use Rattle.std.proofs.lemmas.Bool.{and_parts, not-true}
 use Rattle.basic_toml_index.specs.Index.{few}
 use Rattle.basic_toml_index.specs.Keys.{is_among, are_distinct}
 use Rattle.basic_toml_read.specs.declared.section.Row.{Row, out-Row}
 use Rattle.basic_toml_plain.specs.Plain.{key_of, is_plain, are_simple, are_few_simple, are_all_plain}
 use Rattle.basic_toml_plain.proofs.PlainSeen.{simple_step}
-
-no_more : (b : Bool) → not b ≡ true → b ≡ false
-no_more true is = absurd (cc)
-no_more false is = refl
 
 -- the first of simple rows, and the others
 pub record FirstIsSimple (l : ℕ) (r : Row) (rs : List Row) : Type 0 where
@@ -23,7 +19,7 @@ first_is_simple l r rs simple =
     let here = is_plain (out-Row r).value l && not (is_among (map key_of rs) (key_of r)) in
     let a = and_parts here (are_simple l rs) (sym (simple_step l r rs) ∙ simple) in
     let b = and_parts (is_plain (out-Row r).value l) (not (is_among (map key_of rs) (key_of r))) a.0 in
-    record { plain = b.0; apart = no_more (is_among (map key_of rs) (key_of r)) b.1; others = a.1 }
+    record { plain = b.0; apart = not-true (is_among (map key_of rs) (key_of r)) b.1; others = a.1 }
 
 pub keys_differ : (l : ℕ) (rows : List Row) → are_simple l rows ≡ true → are_distinct (map key_of rows) ≡ true
 keys_differ l [] simple = refl

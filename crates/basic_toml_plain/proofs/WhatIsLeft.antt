@@ -1,23 +1,45 @@
 -- What is passed and what is left of some parts that are made into others, one after another.
-use Rattle.std.proofs.Common.{◌≡◌, List, [], ◌∷◌, ◌++◌, length, ap, arith, refl, sym, ◌∙◌, map}
-use Rattle.std.proofs.lemmas.List.{append-nil, map-append}
+use Rattle.std.proofs.Common.{◌≡◌, ◌≤◌, ◌+◌, Bool, true, List, [], ◌∷◌, ◌++◌, append_assoc, length, map, Vec, Global}
+use Rattle.std.proofs.Common.{ap, arith, sym, ◌∙◌}
+use Rattle.std.specs.Vec.{vec_len, vec_capacity}
+use Rattle.std.proofs.lemmas.List.{append-nil, map-append, nil_from_length}
 
 module _ {A B D : Type 0} (f : A → D) (g : B → D) where
   -- one more is made of the first that is left
   pub mapped_next : (xs next : List A) (ys rest whole : List B) (x : A) (y : B) → ys ≡ y ∷ rest
       → next ≡ xs ++ x ∷ [] → map f xs ++ map g ys ≡ map g whole → f x ≡ g y → map f next ++ map g rest ≡ map g whole
   mapped_next xs next ys rest whole x y left next_is same equal =
-      let e : map f xs ++ map g (y ∷ rest) ≡ map g whole = ap (λ l. map f xs ++ map g l) (sym left) ∙ same in
-      rw (next_is, map-append f xs (x ∷ []), equal) (moved (map f xs) ∙ e)
-    where
-      moved : (ds : List D) → (ds ++ g y ∷ []) ++ map g rest ≡ ds ++ map g (y ∷ rest)
-      moved [] = refl
-      moved (d ∷ ds) = ap (λ l. d ∷ l) (moved ds)
+      rw (next_is, map-append f xs (x ∷ []), equal, append_assoc)
+      (ap (λ l. map f xs ++ map g l) (sym left) ∙ same)
 
 -- where nothing is left all is passed
 pub nothing_left : {A : Type 0} (xs : List A) → length xs ≡ 0 → xs ≡ []
-nothing_left [] none = refl
-nothing_left (x ∷ xs) none = absurd (omega arith)
+nothing_left = nil_from_length
 
 pub none_after : {A : Type 0} (passed left whole : List A) → left ≡ [] → passed ++ left ≡ whole → passed ≡ whole
 none_after passed left whole none same = sym (append-nil passed) ∙ ap (λ l. passed ++ l) (sym none) ∙ same
+
+-- What is moved and what is left make the whole, there is room for what is left, and it is all as it should be.
+pub record IsMovedSoFar {A B D : Type 0} (f : A → D) (g : B → D) (test : List B → Bool) (moved : Vec A Global)
+    (left whole : List B) : Type 0 where
+  pub made : map f moved.items ++ map g left ≡ map g whole
+  pub room : vec_len moved + length left ≤ vec_capacity moved
+  pub fit : test left ≡ true
+
+module _ {A B D : Type 0} {f : A → D} {g : B → D} {test : List B → Bool} {moved : Vec A Global}
+    {left whole : List B} where
+  pub one_moved : {next : Vec A Global} {rest : List B} {y : B} (x : A) → left ≡ y ∷ rest
+      → next.items ≡ moved.items ++ x ∷ [] → vec_len next ≡ vec_len moved + 1 → vec_capacity next ≡ vec_capacity moved
+      → f x ≡ g y → test rest ≡ true → IsMovedSoFar f g test moved left whole → IsMovedSoFar f g test next rest whole
+  one_moved {next} {rest} {y} x first items len capacity equal fit so_far =
+      record {
+        made = mapped_next f g moved.items next.items left rest whole x y first items so_far.made equal;
+        room = omega (arith, ap length first, so_far.room, len, capacity);
+        fit = fit;
+      }
+
+  pub all_moved : {all : List B} → IsMovedSoFar f g test moved left whole → whole ≡ all → length left ≡ 0
+      → map f moved.items ≡ map g all
+  all_moved so_far start none =
+      none_after (map f moved.items) (map g left) (map g whole) (ap (map g) (nothing_left left none)) so_far.made
+      ∙ ap (map g) start

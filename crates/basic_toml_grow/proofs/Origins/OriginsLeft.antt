@@ -3,7 +3,7 @@ use Rattle.std.proofs.Common.{◌≡◌, ℕ, false, List, [], ◌∷◌, ◌++�
 use Rattle.std.proofs.Common.{sym, ◌∙◌, map, rules, append_assoc}
 use Rattle.std.specs.Option.{option_or}
 use Rattle.std.proofs.Math.Path.{fun_ext}
-use Rattle.std.proofs.lemmas.List.{map-append}
+use Rattle.std.proofs.lemmas.List.{append-nil, map-append}
 use Rattle.basic_toml_grammar.specs.Sections.{Key, texts, Raw, Elements, no_elements, Rows, no_rows, row}
 use Rattle.basic_toml_read.specs.KeyText.{key_text_bytes}
 use Rattle.basic_toml_read.specs.SectionView.{key_of, header_texts, raw_of, lined_of, placed_of, elements_view}
@@ -17,6 +17,8 @@ use Rattle.basic_toml_grow.specs.Origins.{Origin, Origins, no_origins, Within, t
 use Rattle.basic_toml_grow.specs.Origins.{with_more, or_else, row_origins, rows_origins, value_origins}
 use Rattle.basic_toml_grow.specs.Origins.{elements_origins}
 use Rattle.basic_toml_grow.proofs.ElementsLeft.{element_seen}
+use Rattle.basic_toml_grow.proofs.RowsEntered.{row_key}
+use Rattle.basic_toml_grow.proofs.RowValues.{row_value}
 use Rattle.basic_toml_grow.proofs.Origins.OriginsSeen.{or_none}
 use Rattle.basic_toml_grow.proofs.Origins.RowsPlaceOrigins.{within_is}
 
@@ -55,14 +57,8 @@ pub origins_done : (s : ℕ) (whole : Rows) (before now : Within) → OriginsLef
 origins_done s whole before now left = sym (left ∙ more_none now)
 
 -- a row by its keys and its value
-row_value : (r : lines.Row) → (lined_of r).value ≡ raw_of (lines.out-Row r).value
-row_value r = search (rules, raws.the_lemmas)
-
 row_start : (r : lines.Row) → (lined_of r).start ≡ (lines.out-Row r).start
 row_start r = search (rules, raws.the_lemmas)
-
-row_key : (r : lines.Row) → (lined_of r).key.text ≡ key_text_bytes (lines.out-Row r).key
-row_key r = search (rules, raws.the_lemmas)
 
 pub row_comes : (s : ℕ) (parents : List keys.Key) (r : lines.Row) (last : List ℕ) (child : Child)
     → last ≡ key_text_bytes (lines.out-Row r).key
@@ -108,8 +104,4 @@ element_comes s whole children child e rest left comes =
 
 pub elements_come : (s : ℕ) (whole : Elements) (children : List Child) → ElementsCome s whole children no_elements
     → map child_origins children ≡ elements_origins s whole
-elements_come s whole children left = sym (left ∙ no_more (map child_origins children))
-  where
-    no_more : (fs : List Origins) → fs ++ [] ≡ fs
-    no_more [] = refl
-    no_more (f ∷ fs) = ap (λ fs. f ∷ fs) (no_more fs)
+elements_come s whole children left = sym (left ∙ append-nil (map child_origins children))

@@ -48,18 +48,15 @@ module _ {gives : Child → Type 0} (before : Table) (k : List ℕ) (there child
     (p : Place) (e : FindsOrAdds gives k (out-Table before).entries new p)
     (stands : slice_get (values_of new) p.position ≡ Some there) (below : Origins)
     (comes : child_origins child ≡ or_else (origins_before p.is_new (child_origins there)) below) where
-  pub origins_put : (mid : Table) (ps : List (List ℕ × Child)) → mid ≡ with_entries before new
-      → ps ≡ with_value (out-Table mid).entries p.position child
-      → table_within (with_entries mid ps) ≡ with_more (table_within before) (beyond (key k) below)
-  origins_put mid ps is_mid is_ps =
-      within_is (table_within (with_entries mid ps)) (with_more (table_within before) (beyond (key k) below))
-      (entries_made mid ps ∙ ap (λ t. (table_within t).made) is_mid ∙ entries_made before new)
-      (entries_section mid ps ∙ ap (λ t. (table_within t).section) is_mid ∙ entries_section before new)
-      (λ q. grows_at before (with_entries mid ps) there child k new p e stands
-      (entries_with mid ps ∙ is_ps
-      ∙ ap (λ t. with_value (out-Table t).entries p.position child) is_mid
-      ∙ ap (λ qs. with_value qs p.position child) (entries_with before new))
-      below q (λ r is. ap (λ f. f r) comes))
+  pub origins_put : (after : Table) → after ≡ with_entries before (with_value new p.position child)
+      → table_within after ≡ with_more (table_within before) (beyond (key k) below)
+  origins_put after same =
+      let put = with_value new p.position child in
+      ap table_within same
+      ∙ within_is (table_within (with_entries before put)) (with_more (table_within before) (beyond (key k) below))
+      (entries_made before put) (entries_section before put)
+      (λ q. grows_at before (with_entries before put) there child k new p e stands (entries_with before put) below q
+      (λ r is. ap (λ f. f r) comes))
 
 -- a table with a new key
 pub origins_added : {gives : Child → Type 0} (before : Table) (k : List ℕ) (there : Child)
@@ -67,12 +64,9 @@ pub origins_added : {gives : Child → Type 0} (before : Table) (k : List ℕ) (
     → slice_get (values_of new) p.position ≡ Some there → p.is_new ≡ true
     → table_within (with_entries before new) ≡ with_more (table_within before) (beyond (key k) (child_origins there))
 origins_added before k there new p e stands is_new =
-    within_is (table_within (with_entries before new))
-    (with_more (table_within before) (beyond (key k) (child_origins there)))
-    (entries_made before new) (entries_section before new)
-    (λ q. grows_at before (with_entries before new) there there k new p e stands
-    (entries_with before new ∙ sym (with_same new p.position there stands)) (child_origins there) q
-    (λ r is. ap (λ b. or_else (origins_before b (child_origins there)) (child_origins there) r) (sym is_new)))
+    origins_put before k there there new p e stands (child_origins there)
+    (ap (λ b. or_else (origins_before b (child_origins there)) (child_origins there)) (sym is_new))
+    (with_entries before new) (ap (with_entries before) (sym (with_same new p.position there stands)))
 
 -- what comes below a new table
 pub comes_below : (is_new : Bool) (o : Origin) (f g row : Origins) → (is_new ≡ true → f ≡ entry o no_origins)

@@ -1,4 +1,4 @@
-use Rattle.std.proofs.Common.{◌≡◌, ℕ, ◌+◌, Bool, true, false, [], refl, ap, sym, ◌∙◌, subst, inr, arith}
+use Rattle.std.proofs.Common.{◌≡◌, ℕ, ◌+◌, Bool, true, false, [], refl, ap, sym, ◌∙◌, subst, arith}
 use Rattle.std.proofs.Common.{rules, Vec, Global}
 use Rattle.std.specs.Prelude.{IfOk}
 use Rattle.std.proofs.lemmas.Bool.{false≢true}
@@ -11,18 +11,17 @@ use Rattle.basic_toml_read.specs.SectionView.{NoneLeft, header_texts, rows_view}
 use Rattle.basic_toml_plain.specs.Plain.{are_few_simple}
 use Rattle.basic_toml_plain.specs.PlainTables.{with_table}
 use Rattle.basic_toml_plain.proofs.PlainValues.{few_lower}
+use Rattle.basic_toml_plain.proofs.WhatIsLeft.{nothing_left}
 use Rattle.basic_toml_grow.specs.declared.item.Item.TheViews.{out-Item}
 use Rattle.basic_toml_grow.specs.declared.item.Item as items
 use Rattle.basic_toml_grow.specs.declared.item.Child.{out-Child}
 use Rattle.basic_toml_grow.specs.declared.item.Table.{Table}
-use Rattle.basic_toml_grow.specs.Item.{item_trie}
 use Rattle.basic_toml_grow.specs.Headers.{is_last}
 use Rattle.basic_toml_grow.specs.Takes.{TakesHeader, TakesHeaderAtKey}
-use Rattle.basic_toml_grow.proofs.HeadersEntered.{failed, holding, other_bars, other_is_leaf}
-use Rattle.basic_toml_grow.proofs.HeadersStopped.{value_stopped, deep_stopped, deep_out}
-use Rattle.basic_toml_grow.proofs.HeadersLead.{lead_more, not_last, no_array}
-use Rattle.basic_toml_grow.proofs.HeadersGoOn.{LeadsOn, from_item, from_key, from_latest, from_none}
-use Rattle.basic_toml_grow.proofs.HeadersGoOn.{from_table, leads_holding, leads_same, new_stays}
+use Rattle.basic_toml_grow.proofs.HeadersEntered.{failed, holding}
+use Rattle.basic_toml_grow.proofs.HeadersLead.{lead_more, not_last}
+use Rattle.basic_toml_grow.proofs.HeadersGoOn.{LeadsOn, from_deep_value, from_item, from_key, from_latest, from_none}
+use Rattle.basic_toml_grow.proofs.HeadersGoOn.{from_table, from_value, leads_holding, leads_same, new_stays}
 use Rattle.basic_toml_grow.proofs.RowsKept.{back_view, can_stay, stay_at_key, stay_in_first, stay_in_next}
 use Rattle.basic_toml_grow.proofs.headers.+walk.Goals as goal
 use Rattle.basic_toml_grow.proofs.headers.+walk.Goals.{enter_at-then-is_array+then-is_empty+then-not-is_new+in_ok-add_table}
@@ -48,16 +47,17 @@ leads t c =
     let same = leads_same a rows (header_texts keys) l is_new mid there in
     elim c.if-is_array.branch [
       | enter_at-then-is_array+then-is_empty+then-not-is_new+in_ok-add_table w ↦
-          leads_holding a rows (header_texts keys) l is_new mid there w.add_table.new.there w.there-is
-          (lead_more a rows keys l is_new (out-Child mid).item w.add_table.new.there w.if-is_array.true
-          (grind (arith, w.is_empty.ensures, w.if-is_empty.true)) w.if-not-is_new.true w.in_ok-add_table.ensures.more)
+          let none = nothing_left keys (grind (arith, w.is_empty.ensures, w.if-is_empty.true)) in
+          rw (w.if-is_array.true, none, w.if-not-is_new.true)
+          (leads_holding true rows [] l false mid there w.add_table.new.there w.there-is
+          (lead_more rows l (out-Child mid).item w.add_table.new.there w.in_ok-add_table.ensures.more))
       | enter_at-else-is_array w ↦ elim w.else-is_array.branch [
         | enter_at-else-is_array-via-then-is_array+then-is_empty+else-not-is_new v ↦
             same w.there-is new (λ not. absurd (false≢true (sym not ∙ v.if-not-is_new.false)))
         | enter_at-else-is_array-via-then-is_array+else-is_empty v ↦
             same w.there-is new (λ not. not_last a keys (grind (arith, v.is_empty.ensures, v.if-is_empty.false)))
         | enter_at-else-is_array-via-else-is_array v ↦
-            same w.there-is new (λ not. no_array a (header_texts keys) v.if-is_array.false)
+            same w.there-is new (λ not. ap (λ b. is_last b (header_texts keys)) v.if-is_array.false)
       ]
     ]
 
@@ -76,11 +76,11 @@ enter_at-returns-in_err-add_table t c =
     let clash = c.in_err-add_table.field-0.0 in
     let r = c.from_residual-in_err-add_table.result in
     let is = c.from_residual-in_err-add_table.ensures.1 in
-    let on = from_none c.args.is_array (rows_view c.args.rows.now) c.args.rest.now c.args.level c.args.number
-    c.args.is_new c.args.there.now mid (holding mid c.add_table.new.there) r clash c.in_ok-unfold.ensures.trie
-    c.if-is_array.true (grind (arith, c.is_empty.ensures, c.if-is_empty.true)) c.if-not-is_new.true
-    c.in_err-add_table.ensures.out c.in_err-add_table.ensures.named is in record {
-      takes = on;
+    let none = nothing_left c.args.rest.now (grind (arith, c.is_empty.ensures, c.if-is_empty.true)) in
+    let on = from_none (rows_view c.args.rows.now) c.args.level c.args.number c.args.there.now mid
+    (holding mid c.add_table.new.there) r clash c.in_ok-unfold.ensures.trie c.in_err-add_table.ensures.out
+    c.in_err-add_table.ensures.named is in record {
+      takes = rw (c.if-is_array.true, none, c.if-not-is_new.true) on;
       taken = failed (λ r. IfOk r (λ _. NoneLeft c.args.rows.now)) r clash is tt;
     }
 
@@ -216,32 +216,15 @@ enter_item-returns-in-Tables t c =
 
 -- a value stands there
 pub enter_item-returns-then-level-ge-NESTING_LIMIT : goal.enter_item-returns-then-level-ge-NESTING_LIMIT
-enter_item-returns-then-level-ge-NESTING_LIMIT t c =
-    let a = c.args.is_array in
-    let rows = rows_view c.args.rows.now in
-    let keys = header_texts c.args.rest.now in
-    let there = c.args.there.now in
-    let seen = other_is_leaf there c.requires.unfolded c.in_default.not-Table c.in_default.not-Tables in record {
-      takes = record {
-        entered = deep_out a keys rows c.args.level (item_trie there) (omega arith);
-        named = deep_stopped a rows keys (c.args.level + 1) there seen.0 (omega arith) seen.1;
-        origins = tt;
-        marks = tt;
-      };
-      taken = tt;
-    }
+enter_item-returns-then-level-ge-NESTING_LIMIT t c = record {
+  takes = from_deep_value c.args.is_array (rows_view c.args.rows.now) c.args.rest.now c.args.level c.args.number
+      c.args.there.now c.requires.unfolded c.in_default.not-Table c.in_default.not-Tables (omega arith);
+  taken = tt;
+}
 
 pub enter_item-returns-else-level-ge-NESTING_LIMIT : goal.enter_item-returns-else-level-ge-NESTING_LIMIT
-enter_item-returns-else-level-ge-NESTING_LIMIT t c =
-    let there = c.args.there.now in
-    let seen = other_is_leaf there c.requires.unfolded c.in_default.not-Table c.in_default.not-Tables in record {
-      takes = record {
-        entered = inr (other_bars c.args.is_array (rows_view c.args.rows.now) (header_texts c.args.rest.now) there
-            c.requires.unfolded c.in_default.not-Table c.in_default.not-Tables);
-        named = value_stopped c.args.is_array (rows_view c.args.rows.now) c.args.rest.now (c.args.level + 1) there seen.0
-            (omega arith) seen.1;
-        origins = tt;
-        marks = tt;
-      };
-      taken = tt;
-    }
+enter_item-returns-else-level-ge-NESTING_LIMIT t c = record {
+  takes = from_value c.args.is_array (rows_view c.args.rows.now) c.args.rest.now c.args.level c.args.number
+      c.args.there.now c.requires.unfolded c.in_default.not-Table c.in_default.not-Tables (omega arith);
+  taken = tt;
+}

@@ -12,7 +12,7 @@ use Rattle.basic_toml_plain.proofs.SimpleKeys.{few_seen}
 use Rattle.basic_toml_grow.specs.declared.item.Child.{Child}
 use Rattle.basic_toml_grammar.specs.Standing as standings
 use Rattle.basic_toml_grow.specs.Item.{child_trie, item_trie, table_trie}
-use Rattle.basic_toml_grow.specs.Rows.{AreIn, AreKeptOut, IsFinished, AreFinished, one_row}
+use Rattle.basic_toml_grow.specs.Rows.{AreIn, AreKeptOut, IsFinished, one_row}
 use Rattle.std.specs.Box as boxes
 use Rattle.basic_toml_grow.proofs.RowsEntered.{row_key, ok_on}
 use Rattle.basic_toml_grow.proofs.RowsLeft.{AreLeft, all_left, no_parents_seen, row_entered, row_kept_out}
@@ -30,11 +30,11 @@ use Rattle.basic_toml_grow.proofs.ClashSaysMet.{row_offset}
 use Rattle.basic_toml_grow.specs.Clash.{NamesObstacle}
 use Rattle.basic_toml_grow.specs.RowStops.{key_at, SaysHeld}
 use Rattle.basic_toml_read.specs.SectionView.{lined_of}
-use Rattle.basic_toml_grow.specs.Obstacles.{rows_obstacle, elements_obstacle}
+use Rattle.basic_toml_grow.specs.Obstacles.{rows_obstacle}
 use Rattle.basic_toml_grow.proofs.RowValues.{last_deep, value_kept_out, value_put, value_met}
 use Rattle.basic_toml_grow.proofs.InlineTables.{inline_finished, inline_kept_out}
 use Rattle.basic_toml_grow.proofs.ElementsLeft.{ElementsAreLeft, all_elements_left, element_entered, elements_done}
-use Rattle.basic_toml_grow.specs.Origins.{table_within, with_more, rows_origins, elements_origins}
+use Rattle.basic_toml_grow.specs.Origins.{table_within, with_more, rows_origins}
 use Rattle.std.proofs.Common.{codes}
 use Rattle.basic_toml_grammar.specs.Sections.{Raw}
 use Rattle.basic_toml_grow.specs.Origins.{entry, value_origin}
@@ -46,8 +46,8 @@ use Rattle.basic_toml_grow.proofs.PlainArrays.{plain_finished, table_finished}
 use Rattle.basic_toml_index.specs.Keys.{are_distinct}
 use Rattle.basic_toml_grow.specs.Simple.{entries_of, with_entries}
 use Rattle.basic_toml_grow.specs.Takes.{TakesRows}
-use Rattle.basic_toml_grow.proofs.SimpleRows.{all_lower}
-use Rattle.basic_toml_grow.proofs.RowsAfter.{FirstIn, first_in, all_entered, all_stopped, all_come}
+use Rattle.basic_toml_grow.proofs.SimpleRows.{FirstIn, all_lower}
+use Rattle.basic_toml_grow.proofs.RowsAfter.{first_in, all_entered, all_stopped, all_come}
 use Rattle.basic_toml_grow.proofs.rows.+finishing.Goals as goal
 
 pub enter_rows-loop-row-init : goal.enter_rows-loop-row-init
@@ -61,46 +61,41 @@ enter_rows-loop-row-init t c = record {
 pub enter_rows-returns-in_err-enter_value : goal.enter_rows-returns-in_err-enter_value
 enter_rows-returns-in_err-enter_value t c =
     let p = err_from_is_err_and c.from_residual.result c.from_residual.ensures.1 in
-    let start : c.into_iter-row-iterator.result ≡ c.args.rows = c.into_iter-row-iterator.ensures.into_iter_gives in
     let whole = rows_seen c.args.parents.now c.into_iter-row-iterator.result in
     let before = table_trie c.args.table.now in
     let now = table_trie c.loop-row.table in
     let row = c.in-Some.row in
     let left = c.loop-row.left.now in
     let clash = c.in_err-enter_value.field-0.0 in
+    let is = c.in_err-enter_value.ensures in
     let seen = ap (rows_seen left) c.in-Some.ensures.steps ∙ first_row left row c.next.new.self in
     let are_left = subst (λ (rows : Rows). AreLeft whole c.args.level before rows now) seen c.loop-row.invariant.left in
-    let kept = subst (λ (ks : List keys.Key). AreKeptOut (one_row ks row) c.args.level now clash)
-    c.own_parents-own.ensures c.in_err-enter_value.ensures.entered in
-    let named = subst (λ (ks : List keys.Key). NamesObstacle (rows_obstacle c.args.level (one_row ks row) now) clash)
-    c.own_parents-own.ensures c.in_err-enter_value.ensures.named in record {
-      entered = rw (p.1, p.2)
-          (subst (λ (rows : List Row). AreKeptOut (rows_seen c.args.parents.now rows) c.args.level before clash) start
-          (row_kept_out whole c.args.level before _ _ _ _ now are_left clash kept));
-      named = rw (p.1, p.2)
-          (subst (λ (rows : List Row). NamesObstacle (rows_obstacle c.args.level (rows_seen c.args.parents.now rows)
-          before) clash) start (row_stopped whole c.args.level before _ _ _ _ now are_left clash named));
-      origins = rw p.1 tt;
-    }
+    rw (p.1, p.2, ← c.into_iter-row-iterator.ensures.into_iter_gives) (record {
+      entered = row_kept_out whole c.args.level before _ _ _ _ now are_left clash
+          (subst (λ (ks : List keys.Key). AreKeptOut (one_row ks row) c.args.level now clash)
+          c.own_parents-own.ensures is.entered);
+      named = row_stopped whole c.args.level before _ _ _ _ now are_left clash
+          (subst (λ (ks : List keys.Key). NamesObstacle (rows_obstacle c.args.level (one_row ks row) now) clash)
+          c.own_parents-own.ensures is.named);
+      origins = tt;
+    })
 
 pub enter_rows-returns : goal.enter_rows-returns
 enter_rows-returns t c =
-    let start : c.into_iter-row-iterator.result ≡ c.args.rows = c.into_iter-row-iterator.ensures.into_iter_gives in
     let whole = rows_seen c.args.parents.now c.into_iter-row-iterator.result in
     let before = table_trie c.args.table.now in
     let now = table_trie c.loop-row.table in
-    let left = subst (λ (rows : List Row). AreLeft whole c.args.level before (rows_seen c.loop-row.left.now rows) now)
-    c.in-None.ensures.steps.0 c.loop-row.invariant.left in
     let w = table_within c.args.table.now in
-    let come = subst (λ (rows : List Row). OriginsLeft c.args.section whole w (rows_seen c.loop-row.left.now rows)
-    (table_within c.loop-row.table)) c.in-None.ensures.steps.0 c.loop-row.invariant.come in record {
-      entered = subst (λ (rows : List Row). AreIn (rows_seen c.args.parents.now rows) c.args.level before now) start
-          (none_left whole c.args.level before now (rows_are_keyed c.args.parents.now c.into_iter-row-iterator.result)
-          left);
+    rw (← c.into_iter-row-iterator.ensures.into_iter_gives) (record {
+      entered = none_left whole c.args.level before now
+          (rows_are_keyed c.args.parents.now c.into_iter-row-iterator.result)
+          (subst (λ (rows : List Row). AreLeft whole c.args.level before (rows_seen c.loop-row.left.now rows) now)
+          c.in-None.ensures.steps.0 c.loop-row.invariant.left);
       named = tt;
-      origins = origins_done c.args.section whole w (table_within c.loop-row.table) come
-          ∙ ap (λ rows. with_more w (rows_origins c.args.section (rows_seen c.args.parents.now rows))) start;
-    }
+      origins = origins_done c.args.section whole w (table_within c.loop-row.table)
+          (subst (λ (rows : List Row). OriginsLeft c.args.section whole w (rows_seen c.loop-row.left.now rows)
+          (table_within c.loop-row.table)) c.in-None.ensures.steps.0 c.loop-row.invariant.come);
+    })
 
 pub enter_rows-loop-row-preserved : goal.enter_rows-loop-row-preserved
 enter_rows-loop-row-preserved t c =
@@ -235,42 +230,31 @@ children_of-loop-element-preserved t c =
       ),
     )
 
-pub children_of-returns-clause-finished : goal.children_of-returns-clause-finished
-children_of-returns-clause-finished t c =
-    let start : c.into_iter-element-iterator.result ≡ c.args.elements.items =
-    c.into_iter-element-iterator.ensures.into_iter_gives ∙ c.drain-element-items.ensures in
-    let ts = map child_trie c.loop-element.children.items in
-    let left = subst (λ (es : List Element). ElementsAreLeft (elements_view
-    c.into_iter-element-iterator.result)
-    c.args.level ts (elements_view es)) c.in-None.ensures.steps.0 c.loop-element.invariant.0 in
-    subst (λ (es : List Element). AreFinished (elements_view es) c.args.level ts) start
-    (elements_done (elements_view c.into_iter-element-iterator.result) c.args.level ts left)
+pub children_of-returns : goal.children_of-returns
+children_of-returns t c =
+    let whole = elements_view c.into_iter-element-iterator.result in
+    let made = c.loop-element.children.items in
+    let none = c.in-None.ensures.steps.0 in
+    rw (← (c.into_iter-element-iterator.ensures.into_iter_gives ∙ c.drain-element-items.ensures)) (record {
+      finished = elements_done whole c.args.level (map child_trie made)
+          (subst (λ (es : List Element). ElementsAreLeft whole c.args.level (map child_trie made) (elements_view es)) none
+          c.loop-element.invariant.0);
+      named = tt;
+      origins = elements_come c.args.section whole made
+          (subst (λ (es : List Element). ElementsCome c.args.section whole made (elements_view es)) none
+          c.loop-element.invariant.1);
+    })
 
 pub children_of-returns-in_err-child-clause-named :
     goal.children_of-returns-in_err-child-clause-named
 children_of-returns-in_err-child-clause-named t c =
     let p = err_from_is_err_and c.from_residual-in_err-child.result c.from_residual-in_err-child.ensures.1 in
-    let start : c.into_iter-element-iterator.result ≡ c.args.elements.items =
-    c.into_iter-element-iterator.ensures.into_iter_gives ∙ c.drain-element-items.ensures in
-    let clash = c.in_err-child.field-0.0 in
     let whole = elements_view c.into_iter-element-iterator.result in
     let ts = map child_trie c.loop-element.children.items in
-    let left = subst (λ (es : List Element). ElementsAreLeft whole c.args.level ts (elements_view es))
-    c.in-Some.ensures.steps c.loop-element.invariant.0 in
-    rw (p.1, p.2) (subst (λ (es : List Element). NamesObstacle (elements_obstacle c.args.level (elements_view es)) clash)
-    start (element_stopped whole c.args.level ts c.in-Some.element c.next.new.self clash left
-    c.in_err-child.ensures.named))
-
-pub children_of-returns-clause-origins : goal.children_of-returns-clause-origins
-children_of-returns-clause-origins t c =
-    let start : c.into_iter-element-iterator.result ≡ c.args.elements.items =
-    c.into_iter-element-iterator.ensures.into_iter_gives ∙ c.drain-element-items.ensures in
-    let come = subst (λ (es : List Element). ElementsCome c.args.section (elements_view
-    c.into_iter-element-iterator.result) c.loop-element.children.items (elements_view es))
-    c.in-None.ensures.steps.0 c.loop-element.invariant.1 in
-    elements_come c.args.section (elements_view c.into_iter-element-iterator.result)
-    c.loop-element.children.items come
-    ∙ ap (λ es. elements_origins c.args.section (elements_view es)) start
+    rw (p.1, p.2, ← (c.into_iter-element-iterator.ensures.into_iter_gives ∙ c.drain-element-items.ensures))
+    (element_stopped whole c.args.level ts c.in-Some.element c.next.new.self c.in_err-child.field-0.0
+    (subst (λ (es : List Element). ElementsAreLeft whole c.args.level ts (elements_view es)) c.in-Some.ensures.steps
+    c.loop-element.invariant.0) c.in_err-child.ensures.named)
 
 -- an inline table of other rows
 pub inline_child-returns-in_err-take_any_rows : goal.inline_child-returns-in_err-take_any_rows

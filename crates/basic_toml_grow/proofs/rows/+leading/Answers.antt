@@ -1,5 +1,5 @@
 use Rattle.std.proofs.Common.{◌≡◌, ℕ, [], ◌∷◌, ◌++◌, ap, ◌∙◌, sym, Option, Some, List, subst, refl, length, map, ◌+◌, true}
-use Rattle.std.proofs.Common.{rules, slice_get}
+use Rattle.std.proofs.Common.{rules, slice_get, option_map}
 use Rattle.basic_toml_grammar.specs.Marks.{dotted}
 use Rattle.basic_toml_grammar.specs.Entering.{and_then}
 use Rattle.basic_toml_grammar.specs.Trie.{Trie, mark_here, put_row}
@@ -8,9 +8,10 @@ use Rattle.basic_toml_value.specs.Growth.{with_value, values_of}
 use Rattle.basic_toml_plain.proofs.WhatIsLeft.{nothing_left}
 use Rattle.basic_toml_grow.specs.Item.{child_trie, table_trie, empty_table, trie_before}
 use Rattle.basic_toml_grow.specs.Simple.{with_entries}
-use Rattle.basic_toml_grow.proofs.ItemTries.{table_child_trie}
+use Rattle.basic_toml_grow.proofs.ItemTries.{table_child_trie, with_entries_put}
 use Rattle.basic_toml_grow.proofs.RowsEntered.{within, err_on, ok_on, made_there, same_key_entered}
-use Rattle.basic_toml_grow.proofs.RowsEntered.{row_on, step_put, step_refused, stands_in}
+use Rattle.basic_toml_grow.proofs.RowsEntered.{changed_table, row_on, stands_in, step_made, table_after}
+use Rattle.basic_toml_grow.specs.Rows.{Enters}
 use Rattle.basic_toml_read.specs.KeyText.{key_text_bytes}
 use Rattle.basic_toml_read.specs.SectionView.{header_texts, key_of}
 use Rattle.basic_toml_read.specs.declared.section.Key as keys
@@ -41,10 +42,7 @@ enter_row-returns-in-Some t c =
 stands_there : (t : ℕ) (c : goal.enter_dotted-After-table-1 t)
     → slice_get (values_of c.enter_again.new.self) c.in_ok-place.place.position ≡ Some c.value_mut-there.result.now
 stands_there t c =
-    let table = c.args.table.now in
-    let new = c.enter_again.new.self in
-    stands_in table (with_entries table new) new c.in_ok-place.place.position c.value_mut-there.result.now refl
-    c.value_mut-there.ensures.value
+    stands_in c.args.table.now c.enter_again.new.self c.in_ok-place.place.position c.value_mut-there.ensures.value
 
 is_empty : (t : ℕ) (c : goal.enter_dotted-After-table-1 t) → c.in_ok-place.place.is_new ≡ true
     → child_trie c.value_mut-there.result.now ≡ empty_table
@@ -72,6 +70,7 @@ enter_dotted-returns t c =
     let there = c.value_mut-there.result.now in
     let now = c.extend.new.there in
     let after = with_value (out-Table mid).entries p.position now in
+    let same = with_entries_put table new p.position now in
     let entered = same_key_entered {new = new} c.as_str.ensures.value c.in_ok-place.ensures.entered in
     let stands = stands_there t c in
     let dots = dotted_of c.args.child in
@@ -83,10 +82,11 @@ enter_dotted-returns t c =
           ap (λ m. and_then m (λ t. put_row (rest ++ last ∷ []) d t))
           (dotted_before p.is_new (child_trie there) (is_empty t c)) in
           let on = row_on key rest last d (table_trie table) in
+          let put = changed_table table key new p entered there stands in
           within (g (child_trie there)) (put_row (header_texts (row ∷ c.args.rest.now) ++ last ∷ []) d (table_trie table))
-          (child_trie now) (table_trie (with_entries mid after)) c.extend.result
-          (λ refused. on ∙ step_refused table key new p entered there stands g (alike ∙ refused))
-          (λ changed. on ∙ step_put table key new p entered there stands g now mid after (alike ∙ changed) refl refl)
+          (child_trie now) (table_trie (with_entries mid after)) put c.extend.result
+          (on ∙ step_made table key new p entered there stands g ∙ ap (option_map put) alike)
+          (ap table_trie same ∙ table_after table key new p entered there stands now)
           (c.extend.ensures.entered d is_leaf);
       named = err_on _ _ c.extend.result
           (λ met told. λ d is_leaf.
@@ -95,8 +95,8 @@ enter_dotted-returns t c =
           (told d is_leaf))) c.extend.ensures.named;
       origins = ok_on _ _ c.extend.result
           (λ x comes. origins_put table key there now new p entered stands (entry dots origins)
-          (comes_below p.is_new dots (child_origins there) (child_origins now) origins (comes_new t c) comes) mid after
-          refl refl
+          (comes_below p.is_new dots (child_origins there) (child_origins now) origins (comes_new t c) comes)
+          (with_entries mid after) same
           ∙ ap (with_more (table_within table)) (sym (origins_on key rest last dots below))) c.extend.ensures.origins;
     }
 
@@ -138,11 +138,9 @@ extend-returns-else-deref t c =
     (ap (λ t. (out-Table t).named) (same ∙ sym was) ∙ c.if-deref.false)
     ∙ ap (λ t. Some (table_trie t)) (sym c.deref_mut-in-Table.ensures.value) in
     let within_is = ap table_within c.deref_mut-in-Table.ensures.value ∙ dotted_within now ∙ ap table_within same in record {
-      entered = λ d is_leaf. within (put_row keys d (table_trie c.deref_mut-in-Table.result.now))
-          (and_then (mark_here dotted (child_trie there)) (λ t. put_row keys d t)) (table_trie c.enter_row.new.table) _
-          c.enter_row.result (λ none. ap (λ m. and_then m (λ t. put_row keys d t)) on ∙ none)
-          (λ some. ap (λ m. and_then m (λ t. put_row keys d t)) on ∙ some
-          ∙ ap Some (rw c.in-Table.is (sym (table_child_trie _ _ _)))) (c.enter_row.ensures.entered d is_leaf);
+      entered = λ d is_leaf. rw on (subst (λ (t : Trie). Enters (put_row keys d
+          (table_trie c.deref_mut-in-Table.result.now)) t c.enter_row.result)
+          (rw c.in-Table.is (sym (table_child_trie _ _ _))) (c.enter_row.ensures.entered d is_leaf));
       named = err_on _ _ c.enter_row.result
           (λ met told. λ d is_leaf. extended_on (map key_of c.args.keys.now) c.args.last.now d (child_trie there)
           (table_trie c.deref_mut-in-Table.result.now) met on (told d is_leaf)) c.enter_row.ensures.named;

@@ -1,4 +1,4 @@
-use Rattle.std.proofs.Common.{[], ◌∷◌, ap, ◌∙◌, sym, refl, Some, subst}
+use Rattle.std.proofs.Common.{[], ◌∷◌, ap, ◌∙◌, sym, Some, subst}
 use Rattle.basic_toml_grammar.specs.Marks.{valued}
 use Rattle.basic_toml_grammar.specs.Steps.{key}
 use Rattle.basic_toml_grammar.specs.Trie.{Trie, mark_here, put_row}
@@ -33,7 +33,7 @@ returns c =
     let new = c.enter_value.new.self in
     let p = c.in_ok-place.place in
     let there = c.value.result.now in
-    let stands = stands_in table (with_entries table new) new p.position there refl c.value.ensures in
+    let stands = stands_in table new p.position c.value.ensures in
     let before = ap (λ b. trie_before b (child_trie there)) c.if-place.false in record {
       entered = λ d is_leaf. is_met (put_row (last ∷ []) d (table_trie table)) (table_trie (with_entries table new))
           c.what_is_met.result

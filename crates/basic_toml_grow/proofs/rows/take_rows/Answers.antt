@@ -1,96 +1,67 @@
-use Rattle.std.proofs.Common.{refl, rules, ◌≡◌, [], ap, ◌∙◌, sym, subst, arith}
-use Rattle.std.proofs.Common.{true}
-use Rattle.basic_toml_read.specs.SectionView.{rows_seen, rows_view}
-use Rattle.basic_toml_plain.specs.Plain.{are_simple}
+use Rattle.std.proofs.Common.{rules, ◌≡◌, length, Ok, refl, ap, ◌∙◌, sym, subst, arith}
+use Rattle.basic_toml_read.specs.SectionView.{rows_view}
 use Rattle.basic_toml_plain.proofs.WhatIsLeft.{nothing_left}
-use Rattle.basic_toml_plain.proofs.SimpleKeys.{few_seen, keys_differ, few_are_plain, few_are_simple}
+use Rattle.basic_toml_plain.proofs.SimpleKeys.{keys_differ, few_are_plain, few_are_simple}
 use Rattle.basic_toml_grow.specs.Item.{table_trie}
-use Rattle.basic_toml_grow.specs.Rows.{AreIn}
-use Rattle.basic_toml_grow.proofs.RowsLeft.{none_seen, no_parents_seen, none_put}
+use Rattle.basic_toml_grow.specs.Takes.{TakesRows}
+use Rattle.basic_toml_grow.proofs.RowsLeft.{none_seen, none_put}
 use Rattle.basic_toml_read.specs.declared.section.Raw as raws
 use Rattle.basic_toml_read.specs.declared.section.Rows as tables
 use Rattle.basic_toml_grammar.specs.Sections.{Rows}
 use Rattle.basic_toml_grow.specs.Origins.{table_within, with_more, rows_origins}
 use Rattle.basic_toml_grow.proofs.Origins.OriginsLeft.{more_none}
-use Rattle.basic_toml_grow.specs.declared.item.Table.{Table, out-Table}
+use Rattle.basic_toml_grow.proofs.RowsKept.{CanStay, can_stay}
 use Rattle.basic_toml_grow.proofs.SimpleRows.{no_entries, all_lower, rows_in, rows_come}
 use Rattle.basic_toml_grow.proofs.rows.take_rows.Goals as goal
 
-pub returns-then-is_empty-2-clause-takes : goal.returns-then-is_empty-2-clause-takes
-returns-then-is_empty-2-clause-takes c =
+pub returns-then-is_empty-2 : goal.returns-then-is_empty-2
+returns-then-is_empty-2 c =
+    let own = tables.out-Rows c.args.rows.now in
     let w = table_within c.args.table.now in
-    let none = none_seen c.args.rows.now
-    (grind (arith, c.is_empty.ensures, c.if-is_empty.true, (tables.out-Rows c.args.rows.now).rows.ok.0)) in record {
-      entered = none_put (rows_view c.args.rows.now) c.args.level (table_trie c.args.table.now) none;
-      named = tt;
-      origins = sym (ap (λ rows. with_more w (rows_origins c.args.section rows)) none ∙ more_none w);
+    let empty : length own.rows.items ≡ 0 = grind (arith, c.is_empty.ensures, c.if-is_empty.true, own.rows.ok.0) in
+    let none = none_seen c.args.rows.now empty in record {
+      takes = record {
+        entered = none_put (rows_view c.args.rows.now) c.args.level (table_trie c.args.table.now) none;
+        named = tt;
+        origins = sym (ap (λ rows. with_more w (rows_origins c.args.section rows)) none ∙ more_none w);
+      };
+      taken = (
+        nothing_left own.parents.items
+            (grind (arith, c.is_empty-then-is_empty.ensures, c.if-is_empty-2.true, own.parents.ok.0)),
+        nothing_left own.rows.items empty,
+      );
     }
-
-pub returns-then-is_empty-2-clause-taken : goal.returns-then-is_empty-2-clause-taken
-returns-then-is_empty-2-clause-taken c =
-    let own = tables.out-Rows c.args.rows.now in (
-      nothing_left own.parents.items (grind (
-        arith,
-        c.is_empty-then-is_empty.ensures,
-        c.if-is_empty-2.true,
-        own.parents.ok.0,
-      )),
-      nothing_left own.rows.items (grind (arith, c.is_empty.ensures, c.if-is_empty.true, own.rows.ok.0)),
-    )
-
--- plain rows are so at the lowest level
-pub with_rows-requires-clause-plain : goal.with_rows-requires-clause-plain
-with_rows-requires-clause-plain c =
-    let items = (tables.out-Rows c.args.rows.now).rows.items in
-    all_lower c.args.level items (few_are_plain c.args.level items
-    (few_seen c.args.level items c.as_slice.result.now c.are_few_simple.result c.as_slice.ensures.value
-    c.are_few_simple.ensures c.if-are_few_simple.true))
 
 -- simple rows, taken all at once
+stay_seen : (c : goal.After-with_rows-arg-then-are_few_simple-1) → CanStay c.args.rows.now c.args.level
+stay_seen c = can_stay c.args.rows.now c.args.level c.is_empty-2.ensures c.if-is_empty-3.true c.as_slice.ensures.value
+    c.are_few_simple.ensures c.if-are_few_simple.true
+
+pub with_rows-requires-clause-plain : goal.with_rows-requires-clause-plain
+with_rows-requires-clause-plain c = all_lower c.args.level _ (few_are_plain c.args.level _ (stay_seen c).few)
+
 pub with_rows-requires-clause-distinct : goal.with_rows-requires-clause-distinct
-with_rows-requires-clause-distinct c =
-    let items = (tables.out-Rows c.args.rows.now).rows.items in
-    keys_differ c.args.level items (few_are_simple c.args.level items
-    (few_seen c.args.level items c.as_slice.result.now c.are_few_simple.result c.as_slice.ensures.value
-    c.are_few_simple.ensures c.if-are_few_simple.true))
+with_rows-requires-clause-distinct c = keys_differ c.args.level _ (few_are_simple c.args.level _ (stay_seen c).few)
 
--- no key stands before one of them, and the table was without entries
-without_parents : (c : goal.In_ok-with_rows) → (tables.out-Rows c.args.rows.now).parents.items ≡ []
-without_parents c =
-    let parents = (tables.out-Rows c.args.rows.now).parents in
-    nothing_left parents.items
-    (grind (arith, c.is_empty-2.ensures, c.if-is_empty-3.true, parents.ok.0))
-
-without_entries : (c : goal.In_ok-with_rows) → (out-Table c.args.table.now).entries ≡ []
-without_entries c =
-    no_entries c.args.table.now c.args.table.now c.is_empty-then-is_empty-3.result refl
-    c.is_empty-then-is_empty-3.ensures c.if-is_empty-4.true
-
-taken_at_once : (c : goal.In_ok-with_rows)
-    → are_simple c.args.level (tables.out-Rows c.args.rows.now).rows.items ≡ true
-taken_at_once c =
-    let items = (tables.out-Rows c.args.rows.now).rows.items in
-    few_are_simple c.args.level items
-    (few_seen c.args.level items c.as_slice.result.now c.are_few_simple.result c.as_slice.ensures.value
-    c.are_few_simple.ensures c.if-are_few_simple.true)
-
-pub returns-then-are_few_simple-clause-takes : goal.returns-then-are_few_simple-clause-takes
-returns-then-are_few_simple-clause-takes c =
+-- into a table without entries
+pub returns-then-are_few_simple : goal.returns-then-are_few_simple
+returns-then-are_few_simple c =
     let table = c.args.table.now in
+    let level = c.args.level in
     let items = (tables.out-Rows c.args.rows.now).rows.items in
-    let seen = no_parents_seen c.args.rows.now (without_parents c) in record {
-      entered = subst (λ (rows : Rows). AreIn rows c.args.level (table_trie table) (table_trie c.with_rows.new.table))
-          (sym seen)
-          (subst (λ (t : Table). AreIn (rows_seen [] items) c.args.level (table_trie table) (table_trie t))
-          (sym c.in_ok-with_rows.ensures.after)
-          (rows_in c.args.section c.args.level (omega arith) table (without_entries c) items (taken_at_once c)));
-      named = tt;
-      origins = ap table_within c.in_ok-with_rows.ensures.after
-          ∙ rows_come c.args.section c.args.level (omega arith) table (without_entries c) items (taken_at_once c)
-          ∙ ap (λ rows. with_more (table_within table) (rows_origins c.args.section rows)) (sym seen);
+    let stay = can_stay c.args.rows.now level c.is_empty-2.ensures c.if-is_empty-3.true c.as_slice.ensures.value
+    c.are_few_simple.ensures c.if-are_few_simple.true in
+    let none = no_entries table table c.is_empty-then-is_empty-3.result refl c.is_empty-then-is_empty-3.ensures
+    c.if-is_empty-4.true in
+    let simple = few_are_simple level items stay.few in record {
+      takes = subst (λ (rows : Rows). TakesRows rows c.args.section level table c.with_rows.new.table (Ok tt))
+          (sym stay.seen)
+          (record {
+            entered = rw (c.in_ok-with_rows.ensures.after)
+                (rows_in c.args.section level (omega arith) table none items simple);
+            named = tt;
+            origins = ap table_within c.in_ok-with_rows.ensures.after
+                ∙ rows_come c.args.section level (omega arith) table none items simple;
+          });
+      taken = search (rules, stay.none, c.in_ok-with_rows.ensures.taken, raws.the_lemmas);
     }
-
-pub returns-then-are_few_simple-clause-taken : goal.returns-then-are_few_simple-clause-taken
-returns-then-are_few_simple-clause-taken c =
-    let parents = without_parents c in
-    search (rules, parents, c.in_ok-with_rows.ensures.taken, raws.the_lemmas)

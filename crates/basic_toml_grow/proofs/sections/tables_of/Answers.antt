@@ -8,7 +8,7 @@ use Rattle.basic_toml_plain.specs.Plain.{are_few_simple}
 use Rattle.basic_toml_plain.proofs.PartsOfRows.{FirstPart, all_tables, first_part, parts_are_plain, parts_are_simple}
 use Rattle.basic_toml_grow.specs.declared.item.Table.{Table}
 use Rattle.basic_toml_grow.specs.Simple.{section_table, table_of}
-use Rattle.basic_toml_grow.proofs.sections.tables_of.Goals.{In-Some, After-drop-rows-inside-2}
+use Rattle.basic_toml_grow.proofs.sections.tables_of.Goals.{In-Some}
 use Rattle.basic_toml_grow.proofs.sections.tables_of.Goals as goal
 
 -- the tables made, and those of the sections left
@@ -63,7 +63,7 @@ loop-own-init c =
 pub first_table-requires-clause-plain : goal.first_table-requires-clause-plain
 first_table-requires-clause-plain c =
     let left = c.loop-own.invariant.left in
-    parts_are_plain left.0 c.loop-own.rows (c.loop-own.own-iterator.rest.items ++ c.into_parts-rows.result.2 ∷ []) left.1
+    parts_are_plain left.0 c.loop-own.rows _ left.1
 
 pub loop-own-preserved : goal.loop-own-preserved
 loop-own-preserved c =
@@ -88,39 +88,26 @@ loop-own-preserved c =
 pub first_table-requires-2-clause-plain : goal.first_table-requires-2-clause-plain
 first_table-requires-2-clause-plain c =
     let left = c.loop-own.invariant.left in
-    parts_are_plain left.0 c.loop-own.rows (c.loop-own.own-iterator.rest.items ++ c.into_parts-rows.result.2 ∷ []) left.1
+    parts_are_plain left.0 c.loop-own.rows _ left.1
 
-all_are_made : (c : After-drop-rows-inside-2)
-    → (c.loop-own.earlier.items ≡ map table_of c.args.tables.now.0) × (c.in_ok-latest.latest ≡ table_of c.args.tables.now.1)
-all_are_made c =
+pub returns : goal.returns
+returns c =
     let rows = c.into_parts-rows.result.0 in
     let sections = c.into_parts-rows.result.1.items in
     let last = c.into_parts-rows.result.2 in
+    let whole = c.args.tables.now in
     let left = c.loop-own.own-iterator.rest in
     let parted = c.into_parts-rows.ensures in
-    let seen : (parts rows sections, (last.section, drop last.start rows)) ≡ c.args.tables.now =
-    ap₂ (λ (ts : List SectionTable) (t : SectionTable). (ts, t)) parted.earlier parted.latest ∙ c.take.ensures in
-    all_made c.loop-own.earlier.items last c.loop-own.rows left.items c.in_ok-latest.latest c.args.tables.now
+    let all = all_tables rows sections last whole parted.plain
+    (ap₂ (λ (ts : List SectionTable) (t : SectionTable). (ts, t)) parted.earlier parted.latest ∙ c.take.ensures) in
+    let made = all_made c.loop-own.earlier.items last c.loop-own.rows left.items c.in_ok-latest.latest whole
     (nil_from_length left.items (omega (arith, c.in-None.ensures.steps.0, left.ok.0)))
     (c.loop-own.invariant.made
     ∙ ap (λ ss. map table_of (parts rows (ss ++ last ∷ []))) c.into_iter-own-iterator.ensures.into_iter_gives.0
-    ∙ ap (map table_of) (all_tables rows sections last c.args.tables.now parted.plain seen))
-    c.in_ok-latest.ensures.table
-
-pub returns-clause-earlier : goal.returns-clause-earlier
-returns-clause-earlier c = ap (λ v. v.0.items) c.in_ok-new.ensures.ok ∙ (all_are_made c).0
-
-pub returns-clause-latest : goal.returns-clause-latest
-returns-clause-latest c = ap (λ v. v.1) c.in_ok-new.ensures.ok ∙ (all_are_made c).1
-
-pub returns-clause-simple : goal.returns-clause-simple
-returns-clause-simple c =
-    let rows = c.into_parts-rows.result.0 in
-    let sections = c.into_parts-rows.result.1.items in
-    let last = c.into_parts-rows.result.2 in
-    let parted = c.into_parts-rows.ensures in
-    let seen : (parts rows sections, (last.section, drop last.start rows)) ≡ c.args.tables.now =
-    ap₂ (λ (ts : List SectionTable) (t : SectionTable). (ts, t)) parted.earlier parted.latest ∙ c.take.ensures in
-    ap (list_all (λ (t : SectionTable). are_few_simple 0 t.1))
-    (sym (all_tables rows sections last c.args.tables.now parted.plain seen))
-    ∙ parts_are_simple 0 rows (sections ++ last ∷ []) parted.plain
+    ∙ ap (map table_of) all)
+    c.in_ok-latest.ensures.table in record {
+      earlier = ap (λ v. v.0.items) c.in_ok-new.ensures.ok ∙ made.0;
+      latest = ap (λ v. v.1) c.in_ok-new.ensures.ok ∙ made.1;
+      simple = ap (list_all (λ (t : SectionTable). are_few_simple 0 t.1)) (sym all)
+          ∙ parts_are_simple 0 rows (sections ++ last ∷ []) parted.plain;
+    }

@@ -1,4 +1,4 @@
-use Rattle.std.proofs.Common.{◌≡◌, ℕ, ◌+◌, Bool, true, false, List, ◌∷◌, map, refl, ap, sym, ◌∙◌, arith}
+use Rattle.std.proofs.Common.{◌≡◌, ℕ, ◌+◌, Bool, true, List, ◌∷◌, map, ap, sym, ◌∙◌, arith}
 use Rattle.std.specs.Prelude.{◌&&◌, nat_lt, not}
 use Rattle.basic_toml_index.specs.Keys.{is_among}
 use Rattle.basic_toml_value.specs.Nesting.{nesting_limit}
@@ -24,56 +24,27 @@ are_plain-is_plain-requires t c =
     c.loop-element-test.true c.element-item.is in
     (omega (arith, fewer, c.decreases), tt)
 
--- a row whose value is plain, and whose key the rest have not
-abbrev here : ℕ → Row → List Row → Bool
-here l r rs = is_plain (out-Row r).value l && not (is_among (map key_of rs) (key_of r))
-
-plain_here : (l : ℕ) (r : Row) (rs : List Row) (plain has : Bool) (k : List ℕ) → plain ≡ is_plain (out-Row r).value l
-    → plain ≡ true → has ≡ is_among (map key_of rs) k → k ≡ key_of r → not has ≡ here l r rs
-plain_here l r rs plain has k is holds among key =
-    ap not (among ∙ ap (is_among (map key_of rs)) key)
-    ∙ sym (ap (λ b. b && not (is_among (map key_of rs) (key_of r))) (sym is ∙ holds))
-
-other_here : (l : ℕ) (r : Row) (rs : List Row) (plain : Bool) → plain ≡ is_plain (out-Row r).value l
-    → plain ≡ false → plain ≡ here l r rs
-other_here l r rs plain is fails =
-    fails ∙ sym (ap (λ b. b && not (is_among (map key_of rs) (key_of r))) (sym is ∙ fails))
-
-all_here : (l : ℕ) (rows : List Row) (r : Row) (rs : List Row) (value result : Bool) → rows ≡ r ∷ rs
-    → value ≡ here l r rs → (value && result) ≡ (value && are_simple l rs) → (value && result) ≡ are_simple l rows
-all_here l rows r rs value result whole first others =
-    others ∙ ap (λ b. b && are_simple l rs) first ∙ sym (simple_step l r rs) ∙ sym (ap (are_simple l) whole)
+-- rows are simple where the first is, among the rest, and they are
+simple_seen : (l : ℕ) (rows rs : List Row) (r : Row) (value : Bool) → rows ≡ r ∷ rs
+    → value ≡ (is_plain (out-Row r).value l && not (is_among (map key_of rs) (key_of r)))
+    → are_simple l rows ≡ (value && are_simple l rs)
+simple_seen l rows rs r value whole here =
+    ap (are_simple l) whole ∙ simple_step l r rs ∙ sym (ap (λ b. b && are_simple l rs) here)
 
 pub are_simple-returns-then-not-has_key : goal.are_simple-returns-then-not-has_key
 are_simple-returns-then-not-has_key t c =
-    let l = c.args.level in
-    let r = c.in-Some.row.now in
-    let rs = c.in-Some.rest.now in
-    let value : c.if-is_plain.value ≡ here l r rs =
-    elim c.if-is_plain.branch [
-      | are_simple-then-is_plain w ↦
-          w.value-is ∙ plain_here l r rs c.is_plain.result w.has_key.result w.as_str.result.now c.is_plain.ensures
-          w.if-is_plain.true w.has_key.ensures w.as_str.ensures.value
-      | are_simple-else-is_plain w ↦
-          w.value-is ∙ other_here l r rs c.is_plain.result c.is_plain.ensures w.if-is_plain.false
-    ] in
-    let all = all_here l c.args.rows.now r rs c.if-is_plain.value c.are_simple.result c.in-Some.ensures.cases.0 value
-    (ap (λ b. c.if-is_plain.value && b) c.are_simple.ensures) in
-    sym (ap (λ b. b && c.are_simple.result) c.if-not-has_key.true) ∙ all
+    let all = simple_seen c.args.level c.args.rows.now c.in-Some.rest.now c.in-Some.row.now c.if-is_plain.value
+    c.in-Some.ensures.cases.0 (elim c.if-is_plain.branch [
+      | are_simple-then-is_plain w ↦ rw (sym c.is_plain.ensures ∙ w.if-is_plain.true) (cc)
+      | are_simple-else-is_plain w ↦ rw (sym c.is_plain.ensures ∙ w.if-is_plain.false) (cc)
+    ]) in
+    c.are_simple.ensures ∙ sym (rw c.if-not-has_key.true at all)
 
 pub are_simple-returns-else-not-has_key : goal.are_simple-returns-else-not-has_key
 are_simple-returns-else-not-has_key t c =
-    let l = c.args.level in
-    let r = c.in-Some.row.now in
-    let rs = c.in-Some.rest.now in
-    let value : c.if-is_plain.value ≡ here l r rs =
-    elim c.if-is_plain.branch [
-      | are_simple-then-is_plain w ↦
-          w.value-is ∙ plain_here l r rs c.is_plain.result w.has_key.result w.as_str.result.now c.is_plain.ensures
-          w.if-is_plain.true w.has_key.ensures w.as_str.ensures.value
-      | are_simple-else-is_plain w ↦
-          w.value-is ∙ other_here l r rs c.is_plain.result c.is_plain.ensures w.if-is_plain.false
-    ] in
-    let all = all_here l c.args.rows.now r rs c.if-is_plain.value (are_simple l rs) c.in-Some.ensures.cases.0 value refl
-    in
-    c.if-not-has_key.false ∙ sym (ap (λ b. b && are_simple l rs) c.if-not-has_key.false) ∙ all
+    let all = simple_seen c.args.level c.args.rows.now c.in-Some.rest.now c.in-Some.row.now c.if-is_plain.value
+    c.in-Some.ensures.cases.0 (elim c.if-is_plain.branch [
+      | are_simple-then-is_plain w ↦ rw (sym c.is_plain.ensures ∙ w.if-is_plain.true) (cc)
+      | are_simple-else-is_plain w ↦ rw (sym c.is_plain.ensures ∙ w.if-is_plain.false) (cc)
+    ]) in
+    c.if-not-has_key.false ∙ sym (rw c.if-not-has_key.false at all)

@@ -1,19 +1,15 @@
-use Rattle.std.proofs.Common.{ap, ap₂, arith, sym, ◌∙◌, List, ℕ, length, map, take_all}
-use Rattle.std.specs.Prelude.{nat_le}
-use Rattle.std.proofs.lemmas.Bool.{and_parts}
-use Rattle.basic_toml_index.specs.Index.{few}
-use Rattle.basic_toml_value.specs.Data.{Data, items_of, members_of}
-use Rattle.basic_toml_value.specs.View.{view, entries}
+use Rattle.std.proofs.Common.{ap, ap₂, arith, sym, ◌∙◌, List, ℕ, map, take_all}
+use Rattle.basic_toml_value.specs.Data.{Data, items_of}
+use Rattle.basic_toml_value.specs.View.{view}
 use Rattle.basic_toml_value.proofs.Sizes.{data_size, items_size}
-use Rattle.basic_toml_plain.specs.Plain.{is_plain, are_plain, are_simple, are_few_simple}
-use Rattle.basic_toml_plain.specs.Plain.{plain_data, element_data, rows_data}
+use Rattle.basic_toml_plain.specs.Plain.{is_plain, are_plain, are_few_simple, plain_data, element_data, rows_data}
 use Rattle.basic_toml_plain.proofs.PlainSeen.{array_data}
 use Rattle.basic_toml_plain.proofs.PlainValues.{array_within, table_within}
 use Rattle.basic_toml_plain.specs.Values.{value_pair, row_pair}
-use Rattle.basic_toml_plain.proofs.DataParts.{array_seen, items_size-at, members_size-at, mapped_more}
-use Rattle.basic_toml_plain.proofs.DataParts.{entries_seen, table_seen}
+use Rattle.basic_toml_plain.proofs.DataParts.{array_seen, items_size-at, members_size-at, mapped_more, table_seen}
 use Rattle.basic_toml_plain.proofs.PlainLeft.{element_at, element_value, row_at}
-use Rattle.basic_toml_plain.proofs.RowsData.{inline_rows, few_data, few_indexed}
+use Rattle.basic_toml_plain.proofs.RowsData.{inline_rows, few_data, few_indexed, values_seen}
+use Rattle.basic_toml_plain.proofs.SimpleKeys.{few_are_simple}
 use Rattle.basic_toml_plain.proofs.values.+copies.Goals as goal
 
 pub plain_value-plain_values-requires : goal.plain_value-plain_values-requires
@@ -72,7 +68,7 @@ plain_table-plain_value-requires t c =
     let same = few_data rows c.requires in (
       omega (arith, ap data_size same),
       row_at rows c.loop-row.row-index c.row-item.result c.loop-row-test.true c.row-item.is
-          (and_parts (nat_le (length rows) few) (are_simple 0 rows) c.requires).1,
+          (few_are_simple 0 rows c.requires),
     )
 
 pub plain_table-loop-row-preserved : goal.plain_table-loop-row-preserved
@@ -90,8 +86,7 @@ plain_table-from_parts-requires t c =
 
 pub plain_table-returns-clause-table : goal.plain_table-returns-clause-table
 plain_table-returns-clause-table t c =
-    ap (λ ps. Data.table (entries ps)) c.from_parts.ensures
-    ∙ ap Data.table (entries_seen c.loop-row.copies.items)
-    ∙ ap (λ ps. Data.table (members_of ps)) (c.loop-row.invariant
-    ∙ ap (map row_pair) (take_all c.loop-row.row-index c.args.rows.now c.loop-row-test.false))
+    sym (table_seen _)
+    ∙ values_seen _ c.loop-row.copies.items c.args.rows.now c.from_parts.ensures
+    (c.loop-row.invariant ∙ ap (map row_pair) (take_all c.loop-row.row-index c.args.rows.now c.loop-row-test.false))
     ∙ sym (few_data c.args.rows.now c.requires)

@@ -1,10 +1,10 @@
-use Rattle.std.proofs.Common.{◌≡◌, ◌≤◌, ◌+◌, ◌*◌, ◌++◌, true, length, map}
-use Rattle.std.specs.Vec.{vec_len, vec_capacity}
+use Rattle.std.proofs.Common.{◌+◌, ◌*◌, map}
 use Rattle.basic_toml_value.specs.Data.{items_of}
 use Rattle.basic_toml_value.specs.View.{view}
 use Rattle.basic_toml_value.proofs.Sizes.{data_size, items_size}
 use Rattle.basic_toml_plain.specs.Plain.{are_plain, are_simple, plain_data, element_data, rows_data}
 use Rattle.basic_toml_plain.specs.Values.{value_pair, row_pair}
+use Rattle.basic_toml_plain.proofs.WhatIsLeft.{IsMovedSoFar}
 use Rattle.basic_toml_plain.proofs.values.+moves.Given as goal
 
 abbrev pub decreases-into_plain_value : goal.decreases-into_plain_value
@@ -25,22 +25,14 @@ decreases-into_plain_entries l = 3 * data_size (rows_data l.rows.items)
 -- the values of the elements passed are moved, in order, and the others are left, which are plain
 abbrev pub invariant-into_many-loop-element : goal.invariant-into_many-loop-element
 invariant-into_many-loop-element l =
-    (map view l.moved.items ++ map element_data l.element-iterator ≡ map element_data l.initial.element-iterator)
-    × (vec_len l.moved + length l.element-iterator ≤ vec_capacity l.moved)
-    × (are_plain 0 l.element-iterator ≡ true)
+    IsMovedSoFar view element_data (are_plain 0) l.moved l.element-iterator l.initial.element-iterator
 
--- and there is room for them
 abbrev pub invariant-into_plain_values-loop-element : goal.invariant-into_plain_values-loop-element
 invariant-into_plain_values-loop-element l =
-    (map view l.moved.items ++ map element_data l.element-iterator.rest.items
-    ≡ map element_data l.initial.element-iterator.rest.items)
-    × (vec_len l.moved + length l.element-iterator.rest.items ≤ vec_capacity l.moved)
-    × (are_plain 0 l.element-iterator.rest.items ≡ true)
+    IsMovedSoFar view element_data (are_plain 0) l.moved l.element-iterator.rest.items
+    l.initial.element-iterator.rest.items
 
 -- the same of rows
 abbrev pub invariant-into_plain_entries-loop-row : goal.invariant-into_plain_entries-loop-row
 invariant-into_plain_entries-loop-row l =
-    (map value_pair l.moved.items ++ map row_pair l.row-iterator.rest.items
-    ≡ map row_pair l.initial.row-iterator.rest.items)
-    × (vec_len l.moved + length l.row-iterator.rest.items ≤ vec_capacity l.moved)
-    × (are_simple 0 l.row-iterator.rest.items ≡ true)
+    IsMovedSoFar value_pair row_pair (are_simple 0) l.moved l.row-iterator.rest.items l.initial.row-iterator.rest.items

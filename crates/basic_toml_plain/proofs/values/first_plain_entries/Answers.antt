@@ -9,14 +9,12 @@ use Rattle.basic_toml_plain.proofs.values.first_plain_entries.Goals as goal
 pub loop-init : goal.loop-init
 loop-init c =
     let all : c.args.count - 0 ≡ c.args.count = omega arith in
-    let none = c.in_ok-moved.ensures.items in
-    let room = c.in_ok-moved.ensures.capacity in
-    let empty = c.in_ok-moved.ensures.len in record {
-      entered = ap₂ (λ ps n. map value_pair ps ++ map row_pair (take n c.args.rows.now)) none all;
+    let made = c.in_ok-moved.ensures in record {
+      entered = ap₂ (λ ps n. map value_pair ps ++ map row_pair (take n c.args.rows.now)) made.items all;
       left = ap (λ n. drop n c.args.rows.now) all;
       within = omega (arith, c.requires.within);
       plain = c.requires.plain;
-      room = omega (arith, room, empty);
+      room = omega (arith, made.capacity, made.len);
     }
 
 -- a row is left, since so many are

@@ -4,7 +4,5 @@ use Rattle.basic_toml_plain.proofs.tables.PlainTables.len.Goals as goal
 
 pub returns : goal.returns
 returns c =
-    let inside = c.self.inside in
-    let count = tables_count inside.rows.items inside.earlier.items inside.latest c.args.self.now c.self.invariant
-    c.self.view_is in
-    omega (arith, count, c.len.ensures, inside.earlier.ok.0)
+    let count = tables_count _ _ _ _ c.self.invariant c.self.view_is in
+    omega (arith, count, c.len.ensures, c.self.inside.earlier.ok.0)
