@@ -25,7 +25,7 @@ def instructions(words, text):
 
 
 def peak(meter, words, text):
-    """The least peak of resident memory in three runs, in bytes: pages of the program itself come and go by chance."""
+    """The least peak of memory in three runs, in bytes, the pages of files left out."""
     command = [meter, text, str(SECONDS), *words]
     kilobytes = [int(subprocess.check_output(command).split()[1]) for _ in range(3)]
     return min(kilobytes) * 1024

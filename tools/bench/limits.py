@@ -3,10 +3,9 @@ import os
 
 FILE = os.path.join(os.path.dirname(os.path.realpath(__file__)), "limits")
 SHARE = 1.03  # of what was measured
-PAGES = 280000  # bytes of memory: the peak moves by 130 KB by chance, for the text and for the empty text
+PAGES = 40000  # bytes of memory besides, some ten pages
 HEAD = """# FAMILY: instructions a byte of reading and writing again, of reading alone; memory in bytes a byte of the first.
-# `tools/bench/run --set-limits` lowers the limits of instructions to 3 per cent above what it measures. A family that has
-# none gets all three, that of memory with 280 KB besides.
+# `tools/bench/run --set-limits` lowers them to 3 per cent above what it measures, that of memory with 40 KB besides.
 """
 
 
@@ -17,8 +16,8 @@ def of(again, alone):
 
 
 def lowered(old, new):
-    """What was reached is not lost: instructions only fall. Memory stays, as its peak moves by chance."""
-    return min(old[0], new[0]), min(old[1], new[1]), old[2]
+    """What was reached is not lost: limits only fall."""
+    return tuple(map(min, old, new))
 
 
 def write(tidied, read):

@@ -22,6 +22,9 @@ const REFUSED: u8 = 1;
 
 const FAILED: u8 = 3;
 
+// Room for the whole of most texts, which is not moved then while it is read.
+const ROOM: usize = 1 << 20;
+
 /// How doing it ended.
 pub(crate) enum Ended {
     Well,
@@ -48,7 +51,7 @@ fn measured(rt: &HostRuntime) -> io::Result<Ended> {
     let mut arguments = env::args(rt)?;
     let _program = arguments.next();
     let what = arguments.next();
-    let mut input = Vec::new(rt.alloc());
+    let mut input = Vec::with_capacity(rt.alloc(), ROOM)?;
     rt.reader().read_to_end(&mut input)?;
     match what.as_ref().map_or("read", |word| word.as_str()) {
         "read" => texts::read(rt.alloc(), input.as_slice()),
