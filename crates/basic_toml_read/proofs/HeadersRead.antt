@@ -1,59 +1,57 @@
--- Headers, by what stands in them.
-use Rattle.std.proofs.Common.{◌≡◌, ℕ, ◌+◌, ◌-◌, ◌<◌, ◌≤◌, Bool, true, false, List, [], ◌∷◌, ◌++◌, length, map, refl}
-use Rattle.std.proofs.Common.{ap, sym, ◌∙◌, subst, arith, length-append, Option, Some, None, Ok, Err}
-use Rattle.std.proofs.lemmas.List.{map-append}
+-- Headers: their keys, and their brackets.
+use Rattle.std.proofs.Common.{inr, Err, ◌≡◌, ℕ, ◌<◌, Bool, true, false, List, refl, ◌∙◌, arith, Option, Some, None, Ok}
+use Rattle.std.proofs.Common.{◌+◌, ◌≤◌, [], ◌∷◌, ◌++◌, length, map, ap, sym, length-append, eqb-true}
+use Rattle.std.proofs.lemmas.List.{length-map, map-append}
+use Rattle.std.specs.Str.{IsCharBoundary}
 use Rattle.basic_toml_value.specs.Nesting.{nesting_limit}
-use Rattle.basic_toml_tokens.specs.Text.{Text, text_at, after_blanks}
+use Rattle.basic_toml_tokens.specs.Text.{Text, StartsWith, after_blanks, text_at}
 use Rattle.basic_toml_tokens.specs.Punctuation.{IsPunctuationEnd}
-use Rattle.basic_toml_explain.specs.declared.stop.Stop.{Stop}
-use Rattle.basic_toml_explain.specs.declared.stop.Why.{Why}
-use Rattle.basic_toml_explain.specs.declared.stop.Why.TheVariants as why
-use Rattle.basic_toml_read.specs.declared.scalar.Keyed.{Keyed}
-use Rattle.basic_toml_read.specs.Lists.{HeaderKeys}
-use Rattle.basic_toml_read.specs.declared.section.Key as keys
 use Rattle.basic_toml_grammar.specs.Sections.{Key}
 use Rattle.basic_toml_grammar.specs.Entering.{and_then}
+use Rattle.basic_toml_grammar.specs.Grammar.{IsKeys}
+use Rattle.basic_toml_grammar.specs.DeepStops.{DeepKeys, DeepHeader, table, array_of_tables}
+use Rattle.basic_toml_grammar.specs.Holes.{Hole, HoleInKeys, HoleInHeader}
 use Rattle.basic_toml_grammar.specs.Reader as reader
 use Rattle.basic_toml_grammar.specs.Reader.{char_at, if_found}
-use Rattle.basic_toml_read.specs.FrontOf.{keys_of, header_of}
+use Rattle.basic_toml_explain.specs.Stop.{StopsInside}
+use Rattle.basic_toml_explain.specs.declared.stop.Stop.{Stop}
+use Rattle.basic_toml_explain.specs.declared.stop.Why.TheVariants.{Newline}
+use Rattle.basic_toml_explain.specs.declared.stop.Why.TheVariants as why
+use Rattle.basic_toml_read.specs.Lists.{HeaderKeys, AreHeaderKeys, IsHeaderRead}
+use Rattle.basic_toml_read.specs.StopsReached.{AtDeep, InHeaderHole, StopsAtKey, in_header}
 use Rattle.basic_toml_read.specs.AtPlace.{Leaves}
+use Rattle.basic_toml_read.specs.FrontOf.{keys_of, header_of}
+use Rattle.basic_toml_read.specs.Gathers.{ClosesAt}
+use Rattle.basic_toml_read.specs.declared.scalar.Keyed.{Keyed}
+use Rattle.basic_toml_read.specs.declared.section.Key as keys
 use Rattle.basic_toml_read.specs.KeyText.{key_text_bytes}
 use Rattle.basic_toml_read.specs.SectionView.{key_of}
-use Rattle.basic_toml_read.specs.StopsAt.{Misses, MissesKey, ReadsKeyAt}
-use Rattle.basic_toml_read.specs.Gathers.{ClosesAt}
-use Rattle.basic_toml_read.specs.Lists.{AreHeaderKeys, IsHeaderRead, ReadsHeader}
+use Rattle.basic_toml_read.specs.StopsAt.{Misses, ReadsKeyAt}
+use Rattle.basic_toml_grammar.proofs.Grammar.ReaderIsSound.{sign_read}
+use Rattle.basic_toml_grammar.proofs.Nesting.WithinTheLimit as within
 use Rattle.basic_toml_grammar.proofs.Grammar.StringsAreRead.{then_some}
-use Rattle.basic_toml_grammar.specs.DeepStops.{DeepKeys}
 use Rattle.basic_toml_grammar.proofs.Nesting.WithinTheLimit.{keys_within}
-use Rattle.basic_toml_read.proofs.NothingTooDeep.{keys_there}
+use Rattle.basic_toml_read.proofs.StandsIn.{at_deep, key_stops_on, SameDeep, nothing_fits}
 use Rattle.basic_toml_read.proofs.EnoughSteps.{header_is}
-use Rattle.basic_toml_read.proofs.LeftAfter.{sign_missing}
-use Rattle.basic_toml_read.proofs.KeysTold.{KeysTold, keys_deep, keys_missing, misses_on, misses_then, told_last}
-use Rattle.basic_toml_read.proofs.KeysTold.{told_more}
-use Rattle.basic_toml_read.proofs.HeaderBrackets.{OneBracket, TwoBrackets}
+use Rattle.basic_toml_read.proofs.GoesOn.{found_from, then_from, misses_on, misses_then}
+use Rattle.basic_toml_read.proofs.LeftAfter.{sign_after, sign_missing, sign_there}
+use Rattle.basic_toml_read.proofs.AfterKeys.{keys_there}
+use Rattle.basic_toml_read.proofs.KeysTold.{KeysStop, KeysTold, told_last, told_more}
 
-pub header_length : (ks : List keys.Key) → length (map key_of ks) ≡ length ks
-header_length [] = refl
-header_length (k ∷ ks) = omega (arith, header_length ks)
-
--- the level of the last key
-level_of : (n : ℕ) → 2 + n - 1 ≡ n + 1
-level_of n = omega arith
-
-misses_level : (w : Why) (text : Text) → Misses w (keys_of text) (λ keys. nesting_limit < 2 + length keys.0 - 1)
-    → Misses w (keys_of text) (λ keys. nesting_limit < length keys.0 + 1)
-misses_level w text m =
-    misses_then w (keys_of text) (keys_of text) (λ keys. nesting_limit < 2 + length keys.0 - 1)
-    (λ keys. nesting_limit < length keys.0 + 1) (λ e. e) (λ y e. (y, e, λ h. omega (arith, level_of (length y.0)))) m
-
-pub header_missing : {bytes : List ℕ} {at offset level : ℕ} {front : List Key}
-    → KeysTold bytes at 2 offset level front → (w : Why) → MissesKey w (text_at bytes offset)
-    → Misses w (keys_of (text_at bytes at)) (λ keys. nesting_limit < length keys.0 + 1)
-header_missing {bytes = bytes} {at = at} s w m = misses_level w (text_at bytes at) (keys_missing s w m)
-
-pub header_deep : {bytes : List ℕ} {at offset level : ℕ} {front : List Key} → KeysTold bytes at 2 offset level front
-    → nesting_limit < level → Misses why.Deep (keys_of (text_at bytes at)) (λ keys. nesting_limit < length keys.0 + 1)
-header_deep {bytes = bytes} {at = at} s h = misses_level why.Deep (text_at bytes at) (keys_deep s h)
+-- what is known of a stop in the keys of a header, the first of which has level 2
+pub header_keys_stop : (bytes : List ℕ) (at : ℕ) (stop : Stop) → KeysStop bytes at 2 stop → record {
+  read : Misses stop.why (keys_of (text_at bytes at)) (λ keys. nesting_limit < length keys.0 + 1);
+  inside : StopsInside bytes stop;
+  deep : AtDeep (DeepKeys nesting_limit 2 (text_at bytes at)) stop.why stop.at;
+  hole : StopsAtKey (text_at bytes at) stop.why (text_at bytes stop.at);
+}
+header_keys_stop bytes at stop is = record {
+  read = misses_then stop.why (keys_of (text_at bytes at)) (keys_of (text_at bytes at)) _ _ (λ e. e)
+      (λ y e. (y, e, λ h. omega (arith, h))) is.read;
+  inside = is.inside;
+  deep = is.deep;
+  hole = is.hole;
+}
 
 module _ {bytes : List ℕ} {at offset level : ℕ} (front : List keys.Key)
     (s : KeysTold bytes at 2 offset level (map key_of front)) (k : Keyed) {end : ℕ}
@@ -65,15 +63,12 @@ module _ {bytes : List ℕ} {at offset level : ℕ} (front : List keys.Key)
 
   pub header_next : {next offset' : ℕ} → Leaves bytes next offset' (after_blanks (text_at bytes next))
       → IsPunctuationEnd 46 bytes end (Some next) → KeysTold bytes at 2 offset' (level + 1) (map key_of all)
-  header_next {offset' = offset'} after sign =
-      subst (λ (l : List Key). KeysTold bytes at 2 offset' (level + 1) l) (sym seen)
-      (told_more s k key blanks high after sign)
+  header_next after sign = rw seen (told_more s k key blanks high after sign)
 
   pub header_last : IsPunctuationEnd 46 bytes end None → AreHeaderKeys bytes at (record { keys = all; end = end })
   header_last sign = record {
     mid = text_at bytes k.end;
-    is = told_last s k key blanks high sign
-        ∙ ap (λ (l : List Key). Some (l, text_at bytes k.end)) (sym seen);
+    is = rw seen (told_last s k key blanks high sign);
     after = blanks.left;
     over = sign_missing 46 (text_at bytes end) sign;
     limit = omega (
@@ -81,182 +76,177 @@ module _ {bytes : List ℕ} {at offset level : ℕ} (front : List keys.Key)
       ap length pushed,
       length-append front (record { text = k.key; offset = offset } ∷ []),
       s.level_is,
-      header_length front,
+      length-map front key_of,
       high,
     );
     boundary = blanks.boundary;
     later = omega (arith, s.forward, key.2, blanks.forward);
   }
 
--- nothing is too deep in keys that are read
-pub header_keys_within : {bytes : List ℕ} {start : ℕ} {found : HeaderKeys} → AreHeaderKeys bytes start found → (p : ℕ)
-    → DeepKeys nesting_limit 2 (text_at bytes start) p → ⊥
-header_keys_within {bytes = bytes} {start = start} {found = found} k p d =
-    keys_within (keys_there (text_at bytes start) (map key_of found.keys, k.mid) k.is)
-    (omega (arith, k.limit, header_length found.keys)) (ap (char_at 46) (sym k.after) ∙ k.over) d
+-- the rest of a header after its first closing bracket, and after its keys
+abbrev pub ending : ℕ → Bool → List Key → Text → Option reader.Headed
+ending p false keys rest = Some (record { offset = p; keys = keys; is_array = false; rest = rest })
+ending p true keys rest =
+    and_then (char_at 93 rest) (λ last. Some (record { offset = p; keys = keys; is_array = true; rest = last.1 }))
+
+abbrev pub closing : ℕ → Bool → List Key × Text → Option reader.Headed
+closing p is_array keys = and_then (char_at 93 (after_blanks keys.1)) (λ close. ending p is_array keys.0 close.1)
+
+-- the brackets of a header, up to its first key
+pub record Opened (bytes : List ℕ) (at start : ℕ) (is_array : Bool) : Type 0 where
+  pub is : header_of (text_at bytes at) ≡ and_then (keys_of (text_at bytes start)) (closing at is_array)
+  pub later : at < start
+  pub deep : SameDeep (DeepKeys nesting_limit 2 (text_at bytes start)) (DeepHeader nesting_limit (text_at bytes at))
+  pub key : (there : Text) → HoleInKeys (text_at bytes start) Hole.key there
+      → HoleInHeader (text_at bytes at) Hole.key there
+  pub after_keys : (keys : List Key) (mid : Text) → IsKeys (text_at bytes start) keys mid
+      → HoleInHeader (text_at bytes at) Hole.after_header_keys (after_blanks mid)
+  pub half_closed : is_array ≡ true → (keys : List Key) (mid last : Text) (p : ℕ)
+      → IsKeys (text_at bytes start) keys mid → StartsWith 93 (after_blanks mid) p last
+      → HoleInHeader (text_at bytes at) Hole.second_bracket last
+
+-- of a table
+pub one_bracket : {bytes : List ℕ} {at inner start : ℕ}
+    → Leaves bytes inner start (after_blanks (text_at bytes inner)) → ClosesAt 91 Newline bytes at (Ok inner)
+    → IsPunctuationEnd 91 bytes inner None → Opened bytes at start false
+one_bracket {bytes = bytes} {at = at} {inner = inner} left opens one =
+    let none = sign_missing 91 (text_at bytes inner) one in
+    let bracket = sign_read 91 (text_at bytes at) (at, text_at bytes inner) opens.0 in
+    record {
+      is = rw left.left (header_is (text_at bytes at) ∙ then_from _ opens.0 ∙ found_from _ _ none);
+      later = omega (arith, opens.2, left.forward);
+      deep = rw left.left (record {
+        leads = λ p d. table bracket d;
+        backs = λ p d. within.table_keys bracket none d;
+      });
+      key = λ there d. HoleInHeader.table_keys bracket none (rw left.left at d);
+      after_keys = λ keys mid ks. HoleInHeader.table_end bracket (rw left.left at ks);
+      half_closed = λ e. cc;
+    }
+
+-- of an array
+pub two_brackets : {bytes : List ℕ} {at inner first start : ℕ}
+    → Leaves bytes first start (after_blanks (text_at bytes first)) → ClosesAt 91 Newline bytes at (Ok inner)
+    → IsPunctuationEnd 91 bytes inner (Some first) → Opened bytes at start true
+two_brackets {bytes = bytes} {at = at} {inner = inner} {first = first} left opens two =
+    let bracket = sign_read 91 (text_at bytes at) (at, text_at bytes inner) opens.0 in
+    let second = sign_after bytes inner first 91 refl two in
+    record {
+      is = rw left.left (header_is (text_at bytes at) ∙ then_from _ opens.0 ∙ found_from _ _ (sign_there two.0));
+      later = omega (arith, opens.2, two.2, left.forward);
+      deep = rw left.left (record {
+        leads = λ p d. array_of_tables bracket second d;
+        backs = λ p d. within.array_keys bracket second d;
+      });
+      key = λ there d. HoleInHeader.array_keys bracket second (rw left.left at d);
+      after_keys = λ keys mid ks. HoleInHeader.array_end bracket second (rw left.left at ks);
+      half_closed = λ e keys mid last p ks close. HoleInHeader.array_last bracket second (rw left.left at ks) close;
+    }
 
 -- a header, by its brackets
-headed : ℕ → List Key → Bool → Text → reader.Headed
-headed p keys a rest = record { offset = p; keys = keys; is_array = a; rest = rest }
-
-single : ℕ × Text → Option reader.Headed
-single s = and_then (keys_of (after_blanks s.1))
-    (λ keys. and_then (char_at 93 (after_blanks keys.1)) (λ close. Some (headed s.0 keys.0 false close.1)))
-
-double : ℕ × Text → ℕ × Text → Option reader.Headed
-double s t = and_then (keys_of (after_blanks t.1))
-    (λ keys. and_then (char_at 93 (after_blanks keys.1))
-    (λ close. and_then (char_at 93 close.1) (λ last. Some (headed s.0 keys.0 true last.1))))
-
-header_by : (text : Text) (o : Option (ℕ × Text)) → char_at 91 text ≡ o
-    → header_of text ≡ and_then o (λ s. if_found (char_at 91 s.1) (double s) (single s))
-unfolding single double headed
-header_by text o e = header_is text ∙ ap (λ o. and_then o (λ s. if_found (char_at 91 s.1) (double s) (single s))) e
-
 pub no_bracket : (text : Text) → char_at 91 text ≡ None → header_of text ≡ None
-no_bracket text e = header_by text None e
+no_bracket text e = header_is text ∙ then_from _ e
 
--- one bracket
-module _ {bytes : List ℕ} {at start : ℕ} (b : OneBracket bytes at start) where
-  by_one : header_of (text_at bytes at)
-      ≡ and_then (keys_of (text_at bytes start))
-      (λ keys. and_then (char_at 93 (after_blanks keys.1)) (λ close. Some (headed at keys.0 false close.1)))
-  unfolding single
-  by_one =
-      header_by (text_at bytes at) (Some (at, text_at bytes b.inner)) b.sign
-      ∙ ap (λ o. if_found o (double (at, text_at bytes b.inner)) (single (at, text_at bytes b.inner))) b.none
-      ∙ ap (λ t. and_then (keys_of t)
-      (λ keys. and_then (char_at 93 (after_blanks keys.1)) (λ close. Some (headed at keys.0 false close.1))))
-      (sym b.left.left)
+-- what is known of a stop in a header
+abbrev pub HeaderStops : List ℕ → ℕ → Stop → Type 0
+HeaderStops bytes at stop = record {
+  read : Misses stop.why (header_of (text_at bytes at)) (λ h. nesting_limit < length h.keys + 1);
+  inside : StopsInside bytes stop;
+  deep : AtDeep (DeepHeader nesting_limit (text_at bytes at)) stop.why stop.at;
+  hole : InHeaderHole {A = Unit {0}} bytes at (Err stop);
+}
 
-  pub one_missing : (w : Why) → Misses w (keys_of (text_at bytes start)) (λ keys. nesting_limit < length keys.0 + 1)
-      → Misses w (header_of (text_at bytes at)) (λ h. nesting_limit < length h.keys + 1)
-  unfolding headed
-  one_missing w m =
-      misses_on w (keys_of (text_at bytes start)) on (λ keys. nesting_limit < length keys.0 + 1)
-      (λ h. nesting_limit < length h.keys + 1) by_one
-      (λ keys y f h. let (c, c_is, same) = then_some (char_at 93 (after_blanks keys.1))
-      (λ close. Some (headed at keys.0 false close.1)) y f in
-      let there : keys.0 ≡ y.keys = cc in
-      omega (arith, h, ap length there))
-      m
+module _ {bytes : List ℕ} {at start : ℕ} {is_array : Bool} (b : Opened bytes at start is_array) where
+  -- no keys
+  pub no_header_keys : (stop : Stop)
+      → Misses stop.why (keys_of (text_at bytes start)) (λ keys. nesting_limit < length keys.0 + 1)
+      → StopsInside bytes stop → AtDeep (DeepKeys nesting_limit 2 (text_at bytes start)) stop.why stop.at
+      → StopsAtKey (text_at bytes start) stop.why (text_at bytes stop.at) → HeaderStops bytes at stop
+  no_header_keys stop missed inside deep hole = record {
+    read = misses_on stop.why (keys_of (text_at bytes start)) (closing at is_array) _ _ b.is
+        (λ keys h f high. let (close, close_is, g) = then_some (char_at 93 (after_blanks keys.1)) _ h f in
+        omega (arith, high, ap length (keys_kept is_array keys.0 close.1 h g)))
+        missed;
+    inside = inside;
+    deep = at_deep stop.why stop.at b.deep.leads (λ other. b.deep.backs) deep;
+    hole = λ some. key_stops_on (text_at bytes start) (in_header (text_at bytes at)) b.key stop.why
+        (text_at bytes stop.at) hole;
+  }
     where
-      on : List Key × Text → Option reader.Headed
-      on keys = and_then (char_at 93 (after_blanks keys.1)) (λ close. Some (headed at keys.0 false close.1))
+      keys_kept : (a : Bool) (keys : List Key) (rest : Text) (h : reader.Headed) → ending at a keys rest ≡ Some h
+          → keys ≡ h.keys
+      keys_kept false keys rest h e = cc
+      keys_kept true keys rest h e =
+          let (last, last_is, same) = then_some (char_at 93 rest) _ h e in cc
 
   module _ {found : HeaderKeys} (k : AreHeaderKeys bytes start found) where
     by_keys : header_of (text_at bytes at)
-        ≡ and_then (char_at 93 (text_at bytes found.end))
-        (λ close. Some (headed at (map key_of found.keys) false close.1))
-    by_keys =
-        by_one ∙ ap (λ o. and_then o
-        (λ keys. and_then (char_at 93 (after_blanks keys.1)) (λ close. Some (headed at keys.0 false close.1))))
-        k.is
-        ∙ ap (λ t. and_then (char_at 93 t)
-        (λ close. Some (headed at (map key_of found.keys) false close.1))) (sym k.after)
+        ≡ and_then (char_at 93 (text_at bytes found.end)) (λ close. ending at is_array (map key_of found.keys) close.1)
+    by_keys = rw k.after (b.is ∙ then_from _ k.is)
 
-    pub one_closed : (end : ℕ) → ClosesAt 93 why.Bracket bytes found.end (Ok end)
-        → IsHeaderRead bytes at (record {
-          at = at;
-          is_array = false;
-          keys = found.keys;
-          end = end;
-        })
-    unfolding headed
-    one_closed end c = record {
-      is = by_keys ∙ ap (λ o. and_then o
-          (λ close. Some (headed at (map key_of found.keys) false close.1))) c.0;
-      limit = k.limit;
-      boundary = c.1;
-      later = omega (arith, b.later, b.left.forward, k.later, c.2);
+    keys_stand : IsKeys (text_at bytes start) (map key_of found.keys) k.mid
+    keys_stand = keys_there (text_at bytes start) (map key_of found.keys, k.mid) k.is
+
+    -- nothing is too deep in keys that are read
+    header_within : (p : ℕ) → DeepHeader nesting_limit (text_at bytes at) p → ⊥
+    header_within p d =
+        keys_within keys_stand (omega (arith, k.limit, length-map found.keys key_of))
+        (ap (char_at 46) (sym k.after) ∙ k.over) (b.deep.backs p d)
+
+    -- a bracket that is missing after the keys
+    pub unclosed : char_at 93 (text_at bytes found.end) ≡ None
+        → HeaderStops bytes at (record { at = found.end; why = why.Bracket })
+    unclosed none = record {
+      read = by_keys ∙ then_from _ none;
+      inside = inr k.boundary;
+      deep = header_within;
+      hole = λ some. record {
+        wanted = Hole.after_header_keys;
+        takes = refl;
+        misses = record {
+          hole = rw k.after (b.after_keys _ _ keys_stand);
+          missing = nothing_fits Hole.after_header_keys 93 46 (text_at bytes found.end) none k.over (λ c. refl);
+        };
+      };
     }
 
-    pub one_unclosed : (stop : Stop) → ClosesAt 93 why.Bracket bytes found.end (Err stop)
-        → ReadsHeader bytes at found.keys (Err stop)
-    one_unclosed stop c =
-        subst (λ stop. ReadsHeader bytes at found.keys (Err stop)) (sym c.1)
-        (by_keys ∙ ap (λ o. and_then o
-        (λ close. Some (headed at (map key_of found.keys) false close.1))) c.0)
+    -- the first closing bracket
+    module _ (close : ℕ) (closes : ClosesAt 93 why.Bracket bytes found.end (Ok close)) where
+      pub by_bracket : header_of (text_at bytes at) ≡ ending at is_array (map key_of found.keys) (text_at bytes close)
+      by_bracket = by_keys ∙ then_from _ closes.0
 
--- two brackets
-module _ {bytes : List ℕ} {at start : ℕ} (b : TwoBrackets bytes at start) where
-  by_two : header_of (text_at bytes at)
-      ≡ and_then (keys_of (text_at bytes start))
-      (λ keys. and_then (char_at 93 (after_blanks keys.1))
-      (λ close. and_then (char_at 93 close.1) (λ last. Some (headed at keys.0 true last.1))))
-  unfolding double
-  by_two =
-      header_by (text_at bytes at) (Some (at, text_at bytes b.inner)) b.sign
-      ∙ ap (λ o. if_found o (double (at, text_at bytes b.inner)) (single (at, text_at bytes b.inner))) b.two
-      ∙ ap (λ t. and_then (keys_of t)
-      (λ keys. and_then (char_at 93 (after_blanks keys.1))
-      (λ close. and_then (char_at 93 close.1) (λ last. Some (headed at keys.0 true last.1))))) (sym b.left.left)
-
-  pub two_missing : (w : Why) → Misses w (keys_of (text_at bytes start)) (λ keys. nesting_limit < length keys.0 + 1)
-      → Misses w (header_of (text_at bytes at)) (λ h. nesting_limit < length h.keys + 1)
-  unfolding headed
-  two_missing w m =
-      misses_on w (keys_of (text_at bytes start)) on (λ keys. nesting_limit < length keys.0 + 1)
-      (λ h. nesting_limit < length h.keys + 1) by_two
-      (λ keys y f h. let (c, c_is, g) = then_some (char_at 93 (after_blanks keys.1))
-      (λ close. and_then (char_at 93 close.1) (λ last. Some (headed at keys.0 true last.1))) y f in
-      let (d, d_is, same) = then_some (char_at 93 c.1) (λ last. Some (headed at keys.0 true last.1)) y g in
-      let there : keys.0 ≡ y.keys = cc in
-      omega (arith, h, ap length there))
-      m
-    where
-      on : List Key × Text → Option reader.Headed
-      on keys = and_then (char_at 93 (after_blanks keys.1))
-          (λ close. and_then (char_at 93 close.1) (λ last. Some (headed at keys.0 true last.1)))
-
-  module _ {found : HeaderKeys} (k : AreHeaderKeys bytes start found) where
-    by_both : header_of (text_at bytes at)
-        ≡ and_then (char_at 93 (text_at bytes found.end))
-        (λ close. and_then (char_at 93 close.1)
-        (λ last. Some (headed at (map key_of found.keys) true last.1)))
-    by_both =
-        by_two ∙ ap (λ o. and_then o
-        (λ keys. and_then (char_at 93 (after_blanks keys.1))
-        (λ close. and_then (char_at 93 close.1) (λ last. Some (headed at keys.0 true last.1))))) k.is
-        ∙ ap (λ t. and_then (char_at 93 t)
-        (λ close. and_then (char_at 93 close.1)
-        (λ last. Some (headed at (map key_of found.keys) true last.1)))) (sym k.after)
-
-    pub two_unclosed : (stop : Stop) → ClosesAt 93 why.Bracket bytes found.end (Err stop)
-        → ReadsHeader bytes at found.keys (Err stop)
-    two_unclosed stop c =
-        subst (λ stop. ReadsHeader bytes at found.keys (Err stop)) (sym c.1)
-        (by_both ∙ ap (λ o. and_then o
-        (λ close. and_then (char_at 93 close.1)
-        (λ last. Some (headed at (map key_of found.keys) true last.1)))) c.0)
-
-    module _ (last : ℕ) (closes : ClosesAt 93 why.Bracket bytes found.end (Ok last)) where
-      by_last : header_of (text_at bytes at)
-          ≡ and_then (char_at 93 (text_at bytes last))
-          (λ last. Some (headed at (map key_of found.keys) true last.1))
-      by_last = by_both ∙ ap (λ o. and_then o
-          (λ close. and_then (char_at 93 close.1)
-          (λ last. Some (headed at (map key_of found.keys) true last.1)))) closes.0
-
-      pub two_half_closed : (stop : Stop) → ClosesAt 93 why.Bracket bytes last (Err stop)
-          → ReadsHeader bytes at found.keys (Err stop)
-      two_half_closed stop c =
-          subst (λ stop. ReadsHeader bytes at found.keys (Err stop)) (sym c.1)
-          (by_last ∙ ap (λ o. and_then o
-          (λ last. Some (headed at (map key_of found.keys) true last.1))) c.0)
-
-      pub two_closed : (end : ℕ) → ClosesAt 93 why.Bracket bytes last (Ok end)
-          → IsHeaderRead bytes at (record {
-            at = at;
-            is_array = true;
-            keys = found.keys;
-            end = end;
-          })
-      unfolding headed
-      two_closed end c = record {
-        is = by_last ∙ ap (λ o. and_then o
-            (λ last. Some (headed at (map key_of found.keys) true last.1))) c.0;
-        limit = k.limit;
-        boundary = c.1;
-        later = omega (arith, b.later, b.left.forward, k.later, closes.2, c.2);
+      -- a second one that is missing
+      pub half_closed : is_array ≡ true → char_at 93 (text_at bytes close) ≡ None
+          → HeaderStops bytes at (record { at = close; why = why.Bracket })
+      half_closed array none = record {
+        read = by_bracket ∙ half_ended is_array array;
+        inside = inr closes.1;
+        deep = header_within;
+        hole = λ some. record {
+          wanted = Hole.second_bracket;
+          takes = refl;
+          misses = record {
+            hole = b.half_closed array _ _ _ _ keys_stand
+                (sym k.after ∙ sign_read 93 (text_at bytes found.end) (found.end, text_at bytes close) closes.0);
+            missing = λ f. within.no_such none (rw (eqb-true f.char 93 f.fit) at f.starts);
+          };
+        };
       }
+        where
+          half_ended : (a : Bool) → a ≡ true → ending at a (map key_of found.keys) (text_at bytes close) ≡ None
+          half_ended true e = then_from _ none
+          half_ended false e = cc
+
+    pub closed : (end : ℕ) → header_of (text_at bytes at) ≡ Some (record {
+      offset = at;
+      keys = map key_of found.keys;
+      is_array = is_array;
+      rest = text_at bytes end;
+    }) → IsCharBoundary bytes end → found.end < end
+        → IsHeaderRead bytes at (record { at = at; is_array = is_array; keys = found.keys; end = end })
+    closed end is boundary more = record {
+      is = is;
+      limit = k.limit;
+      boundary = boundary;
+      later = omega (arith, b.later, k.later, more);
+    }

@@ -2,7 +2,8 @@
 use Rattle.std.proofs.Common.{inl, inr, ◌≡◌, ℕ, ◌≤◌, ◌==◌, ◌||◌, Bool, true, false, cond, List, [], ◌∷◌, length}
 use Rattle.std.proofs.Common.{refl, ap, sym, ◌∙◌, arith, Option, Some, None, is_some, eqb-true}
 use Rattle.std.specs.Str.{IsCharBoundary}
-use Rattle.std.proofs.lemmas.Bool.{eq-eqb, false≢true, or_from, or_right, or_cases}
+use Rattle.std.proofs.lemmas.Bool.Decides.{nat_tests}
+use Rattle.std.proofs.lemmas.Bool.{eq-eqb, false≢true, or_from, or_right}
 use Rattle.basic_toml_tokens.specs.Text.{Text, StartsWith, text_at, run, after_run, is_blank, is_keylike, is_comment}
 use Rattle.basic_toml_tokens.specs.Text.{after_blanks}
 use Rattle.basic_toml_tokens.specs.Strings.{is_quote}
@@ -22,6 +23,10 @@ pub sign_missing : (c : ℕ) (text : Text) → after_run (λ x. x == c) text ≡
 sign_missing c [] e = refl
 sign_missing c (x ∷ text) e = ap (λ b. cond b (Some (x.0, text)) None) (fails_first (λ x. x == c) x text e)
 
+pub sign_after : {rest : Text} (bytes : List ℕ) (after next c : ℕ) → text_at bytes after ≡ rest
+    → IsPunctuationEnd c bytes after (Some next) → StartsWith c rest after (text_at bytes next)
+sign_after bytes after next c left sign = sym left ∙ sign.0
+
 pub no_comment : (text : Text) → after_run (λ x. x == 35) text ≡ text → after_comment_by is_comment text ≡ text
 no_comment [] e = refl
 no_comment (x ∷ text) e = ap (λ b. cond b (after_run is_comment text) (x ∷ text)) (fails_first (λ x. x == 35) x text e)
@@ -29,7 +34,7 @@ no_comment (x ∷ text) e = ap (λ b. cond b (after_run is_comment text) (x ∷ 
 -- the end of a line
 pub line_ends : (bytes : List ℕ) (at : ℕ) → length bytes ≤ at → IsCharBoundary bytes at → EndsAt bytes at (Some at)
 line_ends bytes at h b =
-    (ap end_of (text_end bytes at h) ∙ ap (λ t. Some t) (sym (text_end bytes at h)), b, omega arith, inr h)
+    (rw (text_end bytes at h) refl, b, omega arith, inr h)
 
 no_end : (text : Text) → after_run (λ c. c == 10) text ≡ text → (text ≡ [] → ⊥) → end_of text ≡ None
 no_end [] e some = absurd (some refl)
@@ -47,48 +52,26 @@ gap_past_blanks (x ∷ text) = go (is_blank x.1) refl (gap_past_blanks text)
   where
     go : (b : Bool) → is_blank x.1 ≡ b → after_gap is_comment (after_blanks text) ≡ after_gap is_comment text
         → after_gap is_comment (cond b (after_blanks text) (x ∷ text)) ≡ after_gap is_comment (x ∷ text)
-    go true e h = h ∙ sym (ap
-        (λ b. cond (b || x.1 == 10) (after_gap is_comment text)
-        (cond (x.1 == 35) (after_gap_from is_comment true text) (x ∷ text))) e)
+    go true e h = h ∙ sym (rw e refl)
     go false e h = refl
 
 -- what a comment does not hold ends it, and is no gap but for a line feed
 not_comment : (c : ℕ) → is_comment c ≡ false → (c == 10) ≡ false → ((is_blank c || c == 10) ≡ false)
     × ((c == 35) ≡ false)
-not_comment c e f = (or_from (is_blank c) (c == 10) (no_blank (is_blank c) refl) f, no_hash (c == 35) refl)
-  where
-    no_blank : (b : Bool) → is_blank c ≡ b → b ≡ false
-    no_blank false h = refl
-    no_blank true h = elim (or_cases (c == 32) (c == 9) h) [
-      | inl k ↦ sym (ap is_comment (eqb-true c 32 k)) ∙ e
-      | inr k ↦ sym (ap is_comment (eqb-true c 9 k)) ∙ e
-    ]
-
-    no_hash : (b : Bool) → (c == 35) ≡ b → b ≡ false
-    no_hash false h = refl
-    no_hash true h = sym (ap is_comment (eqb-true c 35 h)) ∙ e
+not_comment c e f = (grind (arith, nat_tests, or_from), grind (arith, nat_tests))
 
 in_comment : (text : Text) → after_gap_from is_comment true text ≡ after_gap is_comment (after_run is_comment text)
 in_comment [] = refl
 in_comment (x ∷ text) = go (x.1 == 10) refl (is_comment x.1) refl (in_comment text)
   where
-    gap : Text → Text
-    gap t = after_gap is_comment t
-
     go : (a : Bool) → (x.1 == 10) ≡ a → (b : Bool) → is_comment x.1 ≡ b
         → after_gap_from is_comment true text ≡ after_gap is_comment (after_run is_comment text)
         → cond a (after_gap_from is_comment false text) (cond b (after_gap_from is_comment true text) (x ∷ text))
         ≡ after_gap is_comment (cond b (after_run is_comment text) (x ∷ text))
     go true e true f h = absurd (false≢true (ap is_comment (sym (eqb-true x.1 10 e)) ∙ f))
-    go true e false f h = sym
-        (ap (λ b. cond b (after_gap is_comment text)
-        (cond (x.1 == 35) (after_gap_from is_comment true text) (x ∷ text))) (or_right (is_blank x.1) (x.1 == 10) e))
+    go true e false f h = sym (rw (or_right (is_blank x.1) (x.1 == 10) e) refl)
     go false e true f h = h
-    go false e false f h =
-        let no = not_comment x.1 f e in
-        sym (ap (λ b. cond b (after_gap is_comment text)
-        (cond (x.1 == 35) (after_gap_from is_comment true text) (x ∷ text))) no.0
-        ∙ ap (λ b. cond b (after_gap_from is_comment true text) (x ∷ text)) no.1)
+    go false e false f h = let no = not_comment x.1 f e in sym (rw (no.0, no.1) refl)
 
 pub gap_past_comment : (text : Text)
     → after_gap is_comment (after_comment_by is_comment text) ≡ after_gap is_comment text
@@ -97,9 +80,7 @@ gap_past_comment (x ∷ text) = go (x.1 == 35) refl
   where
     go : (b : Bool) → (x.1 == 35) ≡ b
         → after_gap is_comment (cond b (after_run is_comment text) (x ∷ text)) ≡ after_gap is_comment (x ∷ text)
-    go true e = sym (in_comment text)
-        ∙ sym (ap (λ c. cond (is_blank c || c == 10) (after_gap is_comment text)
-        (cond (c == 35) (after_gap_from is_comment true text) (x ∷ text))) (eqb-true x.1 35 e))
+    go true e = sym (in_comment text) ∙ sym (rw (eqb-true x.1 35 e) refl)
     go false e = refl
 
 abbrev pub line_of : Text → Text
@@ -111,10 +92,7 @@ gap_past_line text = gap_past_comment (after_blanks text) ∙ gap_past_blanks te
 -- a gap ends where no line feed stands after a comment
 stands : (x : ℕ × ℕ) (text : Text) → (x.1 == 10) ≡ false → is_blank x.1 ≡ false → (x.1 == 35) ≡ false
     → after_gap is_comment (x ∷ text) ≡ x ∷ text
-stands x text a b c =
-    ap (λ d. cond d (after_gap is_comment text) (cond (x.1 == 35) (after_gap_from is_comment true text) (x ∷ text)))
-    (or_from (is_blank x.1) (x.1 == 10) b a)
-    ∙ ap (λ d. cond d (after_gap_from is_comment true text) (x ∷ text)) c
+stands x text a b c = rw (or_from (is_blank x.1) (x.1 == 10) b a, c) refl
 
 pub blank_stops : (text : Text) → after_blanks (after_blanks text) ≡ after_blanks text
 blank_stops text = after_twice is_blank text
@@ -126,11 +104,8 @@ gap_stops text e = go (after_blanks text) (blank_stops text) e
     after : (t : Text) → after_run is_comment t ≡ t → after_run (λ c. c == 10) t ≡ t → after_gap is_comment t ≡ t
     after [] h k = refl
     after (x ∷ t) h k =
-        let f = fails_first is_comment x t h in
-        let g = fails_first (λ c. c == 10) x t k in
-        let no = not_comment x.1 f g in
-        ap (λ d. cond d (after_gap is_comment t) (cond (x.1 == 35) (after_gap_from is_comment true t) (x ∷ t))) no.0
-        ∙ ap (λ d. cond d (after_gap_from is_comment true t) (x ∷ t)) no.1
+        let no = not_comment x.1 (fails_first is_comment x t h) (fails_first (λ c. c == 10) x t k) in
+        rw (no.0, no.1) refl
 
     go : (t : Text) → after_blanks t ≡ t
         → after_run (λ c. c == 10) (after_comment_by is_comment t) ≡ after_comment_by is_comment t
@@ -163,12 +138,13 @@ pub no_joint : (text : Text) → after_run (λ x. x == 46) text ≡ text → aft
     → after_run is_keylike text ≡ text → after_run is_wordlike text ≡ text
 no_joint [] a b k = refl
 no_joint (x ∷ text) a b k =
-    ap (λ d. cond d (after_run is_wordlike text) (x ∷ text))
-    (or_from (is_keylike x.1) (x.1 == 43 || x.1 == 46) (fails_first is_keylike x text k)
+    rw (or_from (is_keylike x.1) (x.1 == 43 || x.1 == 46) (fails_first is_keylike x text k)
     (or_from (x.1 == 43) (x.1 == 46) (fails_first (λ x. x == 43) x text b) (fails_first (λ x. x == 46) x text a)))
+    refl
 
 pub joint_there : (bytes : List ℕ) (at : ℕ) (o : Option ℕ)
-    → after_run (λ x. x == 46) (text_at bytes at) ≡ text_at bytes at → IsPunctuationEnd 43 bytes at o → IsJoint bytes at o
+    → after_run (λ x. x == 46) (text_at bytes at) ≡ text_at bytes at → IsPunctuationEnd 43 bytes at o
+    → IsJoint bytes at o
 joint_there bytes at None a e = no_joint (text_at bytes at) a e
 joint_there bytes at (Some next) a s = (ap (after_run is_wordlike) s.0, s.1, omega (arith, s.2))
 
@@ -188,7 +164,8 @@ string_begins bytes at None a e = no_string (text_at bytes at) a e
 string_begins bytes at (Some next) a s =
     (omega (arith, s.1.0, s.2), ap is_quote s.3, ap word_at s.0, ap (run is_wordlike) s.0)
 
-pub quote_begins : (bytes : List ℕ) (at next : ℕ) → IsPunctuationEnd 34 bytes at (Some next) → BeginsString bytes at true
+pub quote_begins : (bytes : List ℕ) (at next : ℕ) → IsPunctuationEnd 34 bytes at (Some next)
+    → BeginsString bytes at true
 quote_begins bytes at next s =
     (omega (arith, s.1.0, s.2), ap is_quote s.3, ap word_at s.0, ap (run is_wordlike) s.0)
 

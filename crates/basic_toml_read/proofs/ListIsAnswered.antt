@@ -7,9 +7,6 @@ use Rattle.basic_toml_grammar.specs.Faults.{Fault}
 use Rattle.basic_toml_grammar.specs.Levels.{highest_level}
 use Rattle.basic_toml_grammar.specs.DeepStops.{DeepStop, IsWithin}
 use Rattle.basic_toml_grammar.specs.Reader.{section_list_of}
-use Rattle.basic_toml_grammar.proofs.Grammar.ReaderIsComplete.{list_found}
-use Rattle.basic_toml_grammar.proofs.Grammar.ReaderIsSound.{list_read}
-use Rattle.basic_toml_grammar.proofs.Nesting.DeepStopsAreTooDeep.{deep_stops_are_too_deep}
 use Rattle.basic_toml_explain.specs.declared.stop.Stop.{Stop}
 use Rattle.basic_toml_explain.specs.declared.stop.Why.{Why}
 use Rattle.basic_toml_explain.specs.declared.stop.Why.TheVariants.{Memory, Deep}
@@ -18,8 +15,10 @@ use Rattle.basic_toml_read.specs.declared.section.Section as code
 use Rattle.basic_toml_read.specs.StopsAt.{Misses}
 use Rattle.basic_toml_read.specs.SectionsRead.{ReadsList, IsStop}
 use Rattle.basic_toml_read.specs.StopsReached.{AtDeep}
-use Rattle.basic_toml_read.specs.SectionsAnswer.{HoldsMore, IsRefused, memory, deep, outside}
-use Rattle.basic_toml_read.specs.SectionsAnswer.{AnswersSections}
+use Rattle.basic_toml_read.specs.SectionsAnswer.{HoldsMore, IsRefused, memory, deep, outside, AnswersSections}
+use Rattle.basic_toml_grammar.proofs.Grammar.ReaderIsComplete.{list_found}
+use Rattle.basic_toml_grammar.proofs.Grammar.ReaderIsSound.{list_read}
+use Rattle.basic_toml_grammar.proofs.Nesting.DeepStopsAreTooDeep.{deep_stops_are_too_deep}
 
 -- the list that is read is the one of the grammar
 pub list_answered : (bytes : List ℕ) (list : Vec code.Section Global) → ReadsList bytes (Ok list)

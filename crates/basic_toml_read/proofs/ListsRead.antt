@@ -1,32 +1,259 @@
--- The sections of a text, one by one.
-use Rattle.std.proofs.Common.{◌≡◌, ℕ, ◌+◌, ◌<◌, ◌≤◌, List, [], ◌∷◌, ◌++◌, length, refl, ap}
-use Rattle.std.proofs.Common.{sym, ◌∙◌, arith, append_assoc, append-nil, Option, Some, None, Err}
+-- The list of a text: the rows before its first header, a section by its header, and the sections one by one.
+use Rattle.std.proofs.Common.{◌≡◌, ℕ, ◌+◌, ◌<◌, ◌≤◌, max, List, [], ◌∷◌, ◌++◌, length, refl, ap, sym, ◌∙◌, arith}
+use Rattle.std.proofs.Common.{Option, Some, None, Ok, Err, ◌*◌, append_assoc, append-nil, map, suc}
+use Rattle.std.specs.Option.{IfSome}
+use Rattle.std.specs.Str.{IsCharBoundary}
+use Rattle.std.proofs.lemmas.List.{length-map}
 use Rattle.basic_toml_value.specs.Nesting.{nesting_limit}
-use Rattle.basic_toml_tokens.specs.Text.{Text, text_at, folded, after_blanks}
-use Rattle.basic_toml_read.specs.Lists.{Header}
-use Rattle.basic_toml_explain.specs.declared.stop.Stop.{Stop}
-use Rattle.basic_toml_explain.specs.declared.stop.Why.{Why}
-use Rattle.basic_toml_read.specs.declared.values.Gathered.{Gathered}
-use Rattle.basic_toml_grammar.specs.Sections.{Section}
+use Rattle.basic_toml_tokens.specs.Text.{Text, text_at, folded, start_of, is_comment, after_blanks}
+use Rattle.basic_toml_grammar.specs.Sections.{Rows, no_rows, row, Section, Key}
 use Rattle.basic_toml_grammar.specs.Entering.{and_then}
-use Rattle.basic_toml_grammar.specs.Levels.{highest_level}
-use Rattle.basic_toml_grammar.specs.Reader.{section_list_of}
-use Rattle.basic_toml_read.specs.FrontOf.{header_of, sections_of}
-use Rattle.basic_toml_read.specs.Gathers.{lines_of}
-use Rattle.basic_toml_read.specs.StopsAt.{Misses}
-use Rattle.basic_toml_read.specs.Lists.{NextAt, IsFrom}
-use Rattle.basic_toml_read.specs.Lists.{sections_from, section_seen, IsSectionRead}
-use Rattle.basic_toml_read.specs.SectionsRead.{onto, ListSoFar, IsStop, IsList, left_after}
+use Rattle.basic_toml_grammar.specs.Grammar.{with_root, IsRows, IsHeader, EndsLine}
+use Rattle.basic_toml_grammar.specs.Levels.{rows_level, highest_level, section_level}
+use Rattle.basic_toml_grammar.specs.Reader.{section_list_of, end_of, line_end_at}
+use Rattle.basic_toml_grammar.specs.Holes.{HoleInText, HoleInSections}
+use Rattle.basic_toml_grammar.specs.DeepStops as deep
+use Rattle.basic_toml_grammar.specs.DeepStops.{DeepRows, DeepStop, DeepSections}
+use Rattle.basic_toml_grammar.specs.Reader as reader
+use Rattle.basic_toml_explain.specs.declared.stop.Stop.{Stop}
 use Rattle.basic_toml_explain.specs.Stop.{StopsInside}
-use Rattle.basic_toml_read.specs.StopsReached.{IfDeepSection, InSectionHole}
-use Rattle.basic_toml_read.specs.StopsReached.{in_sections}
-use Rattle.basic_toml_read.specs.StopsReached.{in_text}
-use Rattle.basic_toml_read.proofs.HolesLeadOn.{then_in, hole_on}
-use Rattle.basic_toml_grammar.specs.DeepStops.{DeepSections, DeepStop}
-use Rattle.basic_toml_read.proofs.DeepStops.{deep_on}
-use Rattle.basic_toml_read.proofs.EnoughSteps.{sections_is, sections_is_none}
-use Rattle.basic_toml_read.proofs.RootRead.{some_none, highest_onto}
-use Rattle.basic_toml_read.proofs.KeysTold.{misses_on}
+use Rattle.basic_toml_read.specs.declared.values.Gathered.{Gathered}
+use Rattle.basic_toml_read.specs.FrontOf.{rows_of, sections_of, header_of}
+use Rattle.basic_toml_read.specs.Gathers.{Lines, no_lines, and_lines, lines_of, lines_view}
+use Rattle.basic_toml_read.specs.StopsAt.{Misses}
+use Rattle.basic_toml_read.specs.Lists.{AreRowsRead, NextAt, PassesGaps, Header, IsFrom, sections_from, section_seen}
+use Rattle.basic_toml_read.specs.Lists.{IsSectionRead, IsHeaderRead, EndsLineAt}
+use Rattle.basic_toml_read.specs.SectionsRead.{onto, ListSoFar, IsStop, IsList, left_after}
+use Rattle.basic_toml_read.specs.StopsReached.{AtDeep, IfDeep, InHole, LeadsTo, in_rows, in_text, IfDeepSection}
+use Rattle.basic_toml_read.specs.StopsReached.{InSectionHole, in_sections}
+use Rattle.basic_toml_read.specs.SectionView.{key_of}
+use Rattle.basic_toml_grammar.proofs.Grammar.StringsAreRead.{then_some}
+use Rattle.basic_toml_grammar.proofs.Nesting.WithinTheLimit as within
+use Rattle.basic_toml_grammar.proofs.Grammar.ReaderIsSound.{rows_read, header_read, line_end_read}
+use Rattle.basic_toml_read.proofs.StandsIn.{stops_on, at_deep, is_missed, then_in, newline_stop}
+use Rattle.basic_toml_read.proofs.NothingTooDeep.{root_rows, after_header, its_rows}
+use Rattle.basic_toml_read.proofs.EnoughSteps.{list_is, sections_is, sections_is_none}
+use Rattle.basic_toml_read.proofs.GoesOn.{misses_none, misses_on, then_from}
+
+root_onto : (rs : Rows) (headed : List Section) → with_root rs headed ≡ with_root rs [] ++ headed
+root_onto no_rows headed = refl
+root_onto (row keys p v rs) headed = refl
+
+root_first : (rs : Rows) (o : Option (List Section))
+    → and_then o (λ headed. Some (with_root rs headed)) ≡ onto (with_root rs []) o
+unfolding onto
+root_first rs None = refl
+root_first rs (Some headed) = ap (λ (l : List Section). Some l) (root_onto rs headed)
+
+root_level : (rs : Rows) → (rows_level 1 rs ≤ highest_level (with_root rs []))
+    × (highest_level (with_root rs []) ≤ max 1 (rows_level 1 rs))
+root_level no_rows = (omega arith, omega arith)
+root_level (row keys p v rs) = (omega arith, omega arith)
+
+pub rows_here : (text : Text) (r : Rows × Text) → rows_of text ≡ Some r → IsRows is_comment text r.0 r.1
+unfolding rows_of
+rows_here text r e = rows_read (4 * length text + 3) text r e
+
+-- what is gathered where nothing was
+pub added_lines : {bytes : List ℕ} {start level : ℕ} {old new : Gathered} {next : Option ℕ}
+    (r : AreRowsRead bytes start level old new next) → lines_of old ≡ no_lines → lines_of new ≡ r.added
+added_lines r empty = r.pushed ∙ ap (λ (l : Lines). and_lines l r.added) empty
+
+pub highest_onto : (front sections : List Section)
+    → highest_level (front ++ sections) ≡ max (highest_level front) (highest_level sections)
+highest_onto [] sections = omega arith
+highest_onto (s ∷ front) sections = omega (arith, highest_onto front sections)
+
+-- the rows before the first header
+module _ (bytes : List ℕ) {start : ℕ} (start_is : start ≡ start_of bytes) where
+  list_by : section_list_of (folded bytes)
+      ≡ and_then (rows_of (text_at bytes start))
+      (λ rows. and_then (sections_of rows.1) (λ headed. Some (with_root rows.0 headed)))
+  list_by = rw start_is (list_is (folded bytes))
+
+  -- where no row is, no parents are
+  pub root_parents : {old mid : Gathered} {next : Option ℕ} → lines_of old ≡ no_lines
+      → AreRowsRead bytes start 1 old mid next → mid.rows.items ≡ [] → mid.parents.items ≡ []
+  root_parents empty r none =
+      let added = added_lines r empty in
+      let no_rows : r.added.rows ≡ [] = ap (λ (l : Lines). l.rows) (sym added) ∙ none in
+      ap (λ (l : Lines). l.parents) (added ∙ r.some (rw no_rows refl))
+
+  pub root_there : {old mid : Gathered} {next : Option ℕ} → lines_of old ≡ no_lines
+      → AreRowsRead bytes start 1 old mid next → PassesGaps bytes start old mid (Ok next)
+      → ListSoFar bytes next (with_root (lines_view (lines_of mid)) [])
+  root_there {mid = mid} empty r passed =
+      let rows : IsRows is_comment (folded bytes) (lines_view r.added) r.rest =
+      rw (← start_is) (rows_here (text_at bytes start) (lines_view r.added, r.rest) r.is) in
+      let same : with_root (lines_view r.added) [] ≡ with_root (lines_view (lines_of mid)) [] =
+      ap (λ (l : Lines). with_root (lines_view l) []) (sym (added_lines r empty)) in
+      record {
+        rest = r.rest;
+        ends = r.ends;
+        told = rw (← same) (list_by ∙ then_from _ r.is ∙ root_first (lines_view r.added) (sections_of r.rest));
+        limit = omega (arith, ap highest_level same, (root_level (lines_view r.added)).1, r.limit);
+        gaps = λ g.
+            let there = passed (rw start_is g) in
+            let none = there.0 in
+            (cc, ap (λ (l : Lines). with_root (lines_view l) []) (there.1 ∙ empty));
+        leads = λ p d. deep.headed rows r.limit d;
+        backs = λ p d. within.past_root rows r.limit d;
+        holes = record { on = λ h at d. HoleInText.headed rows d; same = λ at d. refl };
+      }
+
+  -- where they stop, the text stops to be one
+  pub root_stops : (old mid : Gathered) (stop : Stop)
+      → Misses stop.why (rows_of (text_at bytes start)) (λ r. nesting_limit < rows_level 1 r.0)
+      → StopsInside bytes stop → PassesGaps bytes start old mid (Err stop)
+      → IfDeep {A = Unit {0}} (DeepRows nesting_limit 1 (text_at bytes start)) (Err stop)
+      → InHole {A = Unit {0}} (in_rows (text_at bytes start)) bytes (Err stop) → IsStop bytes stop
+  root_stops old mid stop missed inside passed is_deep hole = record {
+    missed = misses_on stop.why (rows_of (text_at bytes start)) _ _ _ list_by
+        (λ rows y f h. let (headed, headed_is, same) = then_some (sections_of rows.1) _ y f in
+        let there : with_root rows.0 headed ≡ y = cc in
+        omega (
+          arith,
+          h,
+          ap highest_level (sym (root_onto rows.0 headed) ∙ there),
+          highest_onto (with_root rows.0 []) headed,
+          (root_level rows.0).0,
+        ))
+        missed;
+    inside = inside;
+    more = λ g. let e = (passed (rw start_is g)).0 in cc;
+    deep = at_deep stop.why stop.at (λ p d. deep.root (rw start_is at d))
+        (λ other p d. rw start_is
+        (root_rows (rw start_is at (is_missed stop.why (rows_of (text_at bytes start)) _ other missed)) d)) is_deep;
+    hole =
+        let holes : LeadsTo (in_rows (text_at bytes start)) (in_text (folded bytes)) =
+        rw start_is (record { on = λ h at d. HoleInText.root d; same = λ at d. refl }) in
+        stops_on holes stop.why (text_at bytes stop.at) hole;
+  }
+
+-- the bracket where rows end
+pub bracket_stands : (bytes : List ℕ) (rest : Text) (next : Option ℕ) → NextAt bytes rest next
+    → IfSome next (λ at. IsCharBoundary bytes at)
+bracket_stands bytes rest None e = tt
+bracket_stands bytes rest (Some at) e = let (x, line, is, here, b, some) = e in b
+
+-- what is known of a stop in a section
+abbrev pub SectionStops : List ℕ → ℕ → Stop → Type 0
+SectionStops bytes at stop = record {
+  read : Misses stop.why (and_then (header_of (text_at bytes at)) sections_from)
+      (λ sections. nesting_limit < highest_level sections);
+  inside : StopsInside bytes stop;
+  deep : IfDeepSection {A = Unit {0}} bytes at (Err stop);
+  hole : InSectionHole {A = Unit {0}} bytes at (Err stop);
+}
+
+-- a section, by its header
+header_there : (text : Text) (h : reader.Headed) → header_of text ≡ Some h
+    → IsHeader text h.offset h.keys h.is_array h.rest
+unfolding header_of
+header_there text h e = header_read (suc (length text)) text h e
+
+module _ {bytes : List ℕ} {at : ℕ} {h : Header} (read : IsHeaderRead bytes at h) where
+  keys_here : List Key
+  keys_here = map key_of h.keys
+
+  made : Rows → Section
+  made rs = record { at = h.at; header = keys_here; is_array = h.is_array; rows = rs }
+
+  by_line : and_then (header_of (text_at bytes at)) sections_from
+      ≡ and_then (line_end_at (text_at bytes h.end))
+      (λ next. and_then (rows_of next)
+      (λ rows. and_then (sections_of rows.1) (λ sections. Some (made rows.0 ∷ sections))))
+  unfolding made keys_here
+  by_line = ap (λ o. and_then o sections_from) read.is
+
+  -- the header, at the front of its line
+  header_is : (text : Text) → text_at bytes at ≡ after_blanks text
+      → IsHeader (after_blanks text) h.at keys_here h.is_array (text_at bytes h.end)
+  unfolding keys_here
+  header_is text same = rw (← same) (header_there (text_at bytes at) _ read.is)
+
+  keys_low : length keys_here + 1 ≤ nesting_limit
+  unfolding keys_here
+  keys_low = omega (arith, read.limit, length-map h.keys key_of)
+
+  -- a line that goes on after it
+  pub line_stops : (stop : Stop) → EndsLineAt bytes h.end (Err stop) → StopsInside bytes stop
+      → SectionStops bytes at stop
+  line_stops stop c inside = record {
+    read = misses_none stop.why (and_then (header_of (text_at bytes at)) sections_from) _ (by_line ∙ then_from _ c.0);
+    inside = inside;
+    deep = λ text same. rw c.1 (λ p d. after_header (header_is text same) keys_low c.0 d);
+    hole = λ text same some. newline_stop (in_sections text) stop.why (text_at bytes stop.at) c.1
+        (rw c.2 (HoleInSections.after_header (header_is text same))) (ap end_of c.2 ∙ c.0);
+  }
+
+  module _ (line : ℕ) (ended : EndsLineAt bytes h.end (Ok line)) where
+    by_rows : and_then (header_of (text_at bytes at)) sections_from
+        ≡ and_then (rows_of (text_at bytes line))
+        (λ rows. and_then (sections_of rows.1) (λ sections. Some (made rows.0 ∷ sections)))
+    by_rows = by_line ∙ then_from _ ended.0
+
+    level_here : length keys_here ≡ length h.keys
+    unfolding keys_here
+    level_here = length-map h.keys key_of
+
+    over : EndsLine is_comment (text_at bytes h.end) (text_at bytes line)
+    over = line_end_read (text_at bytes h.end) (text_at bytes line) ended.0
+
+    deep_in_rows : (text : Text) → text_at bytes at ≡ after_blanks text → rows_of (text_at bytes line) ≡ None → (p : ℕ)
+        → DeepSections nesting_limit text p → DeepRows nesting_limit (length h.keys + 1) (text_at bytes line) p
+    deep_in_rows text same e p d = rw (← level_here) (its_rows (header_is text same) keys_low over e d)
+
+    -- a stop in its rows
+    pub rows_stop : (stop : Stop)
+        → Misses stop.why (rows_of (text_at bytes line)) (λ r. nesting_limit < rows_level (length h.keys + 1) r.0)
+        → StopsInside bytes stop
+        → AtDeep (DeepRows nesting_limit (length h.keys + 1) (text_at bytes line)) stop.why stop.at
+        → InHole {A = Unit {0}} (in_rows (text_at bytes line)) bytes (Err stop) → SectionStops bytes at stop
+    unfolding made
+    rows_stop stop missed inside is_deep hole = record {
+      read = misses_on stop.why (rows_of (text_at bytes line)) _ _ _ by_rows
+          (λ rows y g high. let (more, more_is, same) = then_some (sections_of rows.1) _ y g in
+          let first : made rows.0 ∷ more ≡ y = cc in
+          omega (arith, high, ap highest_level first, ap (λ n. rows_level (n + 1) rows.0) level_here))
+          missed;
+      inside = inside;
+      deep = λ text same. at_deep stop.why stop.at
+          (λ p (d : DeepRows nesting_limit (length h.keys + 1) (text_at bytes line) p).
+          deep.this_section (deep.rows (header_is text same) keys_low over (rw level_here d)))
+          (λ other. deep_in_rows text same (is_missed stop.why (rows_of (text_at bytes line)) _ other missed)) is_deep;
+      hole = λ text same some. stops_on {outer = in_sections text}
+          (record { on = λ p there d. HoleInSections.in_rows (header_is text same) over d; same = λ there d. refl })
+          stop.why (text_at bytes stop.at) hole;
+    }
+
+    -- its rows
+    pub section_there : {old mid : Gathered} {next : Option ℕ} → lines_of old ≡ no_lines
+        → AreRowsRead bytes line (length h.keys + 1) old mid next → IsSectionRead bytes at mid h next
+    unfolding made keys_here
+    section_there {old = old} {mid = mid} {next = next} empty r =
+        let view : made (lines_view r.added) ≡ section_seen h (lines_of mid) =
+        ap (λ (l : Lines). made (lines_view l)) (sym (added_lines r empty)) in
+        let rows = rows_here (text_at bytes line) (lines_view r.added, r.rest) r.is in
+        let within_here : section_level (made (lines_view r.added)) ≤ nesting_limit =
+        omega (arith, r.limit, read.limit, level_here, ap (λ n. rows_level (n + 1) (lines_view r.added)) level_here) in
+        record {
+          rest = r.rest;
+          is = rw (← view) (by_rows ∙ then_from _ r.is);
+          ends = r.ends;
+          from = further next r.from;
+          leads = λ text here p d. deep.later_section (header_is text here) over rows within_here d;
+          backs = λ text here p d. within.past_section (header_is text here) over rows within_here d;
+          holes = λ text here. record {
+            on = λ p there d. HoleInSections.later_section (header_is text here) over rows d;
+            same = λ there d. refl;
+          };
+          limit = omega (arith, ap section_level view, within_here);
+        }
+      where
+        further : (next : Option ℕ) → IsFrom line next → IsFrom (at + 1) next
+        further None h' = tt
+        further (Some p) h' = omega (arith, read.later, ended.2)
 
 -- sections one after another
 onto_more : (front : List Section) (s : Section) (o : Option (List Section))
@@ -37,12 +264,10 @@ onto_more front s (Some sections) = ap (λ (l : List Section). Some l) (sym (app
 
 -- from a header on
 module _ (bytes : List ℕ) (at : ℕ) (list : List Section) (s : ListSoFar bytes (Some at) list) where
-  list_from : section_list_of (folded bytes)
-      ≡ onto list (and_then (header_of (text_at bytes at)) sections_from)
+  list_from : section_list_of (folded bytes) ≡ onto list (and_then (header_of (text_at bytes at)) sections_from)
   list_from =
       let (x, line, rest_is, here, b, some) = s.ends in
-      s.told ∙ ap (onto list) (ap sections_of rest_is ∙ sections_is x line ∙
-      ap (λ t. and_then (header_of t) sections_from) (ap after_blanks (sym rest_is) ∙ sym here))
+      s.told ∙ ap (onto list) (rw (here, rest_is) (sections_is x line))
 
   bracket_here : text_at bytes at ≡ after_blanks s.rest
   bracket_here = let (x, line, rest_is, here, b, some) = s.ends in here
@@ -53,32 +278,13 @@ module _ (bytes : List ℕ) (at : ℕ) (list : List Section) (s : ListSoFar byte
   list_more new h next r = record {
     rest = r.rest;
     ends = r.ends;
-    told = list_from ∙ ap (onto list) r.is
-        ∙ onto_more list (section_seen h (lines_of new)) (sections_of r.rest);
-    limit = omega (
-      arith,
-      s.limit,
-      r.limit,
-      highest_onto list (section_seen h (lines_of new) ∷ []),
-    );
+    told = list_from ∙ ap (onto list) r.is ∙ onto_more list (section_seen h (lines_of new)) (sections_of r.rest);
+    limit = omega (arith, s.limit, r.limit, highest_onto list (section_seen h (lines_of new) ∷ []));
     gaps = λ g. let e = (s.gaps g).0 in cc;
     leads = λ p d. s.leads p (r.leads s.rest bracket_here p d);
     backs = λ p d. r.backs s.rest bracket_here p (s.backs p d);
-    holes = then_in (in_sections r.rest) (in_sections s.rest) (in_text (folded bytes))
-        (r.holes s.rest bracket_here) s.holes;
+    holes = then_in (r.holes s.rest bracket_here) s.holes;
   }
-
-  list_missing : (w : Why) → Misses w (and_then (header_of (text_at bytes at)) sections_from)
-      (λ sections. nesting_limit < highest_level sections)
-      → Misses w (section_list_of (folded bytes)) (λ sections. nesting_limit < highest_level sections)
-  unfolding onto
-  list_missing w m =
-      misses_on w (and_then (header_of (text_at bytes at)) sections_from) (λ sections. Some (list ++ sections))
-      (λ sections. nesting_limit < highest_level sections) (λ sections. nesting_limit < highest_level sections)
-      list_from
-      (λ headed y f high. let joined : list ++ headed ≡ y = cc in
-      omega (arith, high, ap highest_level joined, highest_onto list headed))
-      m
 
   -- where none is read, the text stops to be one
   pub list_stops : (stop : Stop)
@@ -86,13 +292,16 @@ module _ (bytes : List ℕ) (at : ℕ) (list : List Section) (s : ListSoFar byte
       (λ sections. nesting_limit < highest_level sections)
       → StopsInside bytes stop → IfDeepSection {A = Unit {0}} bytes at (Err stop)
       → InSectionHole {A = Unit {0}} bytes at (Err stop) → IsStop bytes stop
+  unfolding onto
   list_stops stop missed inside is_deep hole = record {
-    missed = list_missing stop.why missed;
+    missed = misses_on stop.why (and_then (header_of (text_at bytes at)) sections_from) _ _ _ list_from
+        (λ headed y f high. let joined : list ++ headed ≡ y = cc in
+        omega (arith, high, ap highest_level joined, highest_onto list headed))
+        missed;
     inside = inside;
-    more = λ g. some_none at (s.gaps g).0;
-    deep = deep_on {A = Unit {0}} (DeepSections nesting_limit s.rest) (DeepStop nesting_limit (folded bytes)) stop
-        (Err stop) refl s.leads (λ other. s.backs) (is_deep s.rest bracket_here);
-    hole = hole_on {A = Unit {0}} (in_sections s.rest) (in_text (folded bytes)) bytes stop (Err stop) refl s.holes
+    more = λ g. let e = (s.gaps g).0 in cc;
+    deep = at_deep stop.why stop.at s.leads (λ other. s.backs) (is_deep s.rest bracket_here);
+    hole = stops_on s.holes stop.why (text_at bytes stop.at)
         (hole s.rest bracket_here (let (x, line, rest_is, here, b, some) = s.ends in some));
   }
 

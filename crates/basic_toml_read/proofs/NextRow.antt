@@ -2,12 +2,12 @@
 use Rattle.std.proofs.Common.{◌≡◌, ℕ, ◌+◌, ◌<◌, List, [], ◌∷◌, ◌++◌, drop, take, length, get_or, map, refl, ap, sym, ◌∙◌}
 use Rattle.std.proofs.Common.{zero, suc, ◌-◌, ◌≤◌, arith, rules}
 use Rattle.std.proofs.lemmas.List.{drop_more, take_rest, length-drop, take-map, drop-map}
+use Rattle.basic_toml_grammar.specs.Sections.{Rows, row}
 use Rattle.basic_toml_read.specs.declared.section.Raw.{the_lemmas}
 use Rattle.basic_toml_read.specs.declared.section.Row.{Row, out-Row}
 use Rattle.basic_toml_read.specs.declared.section.Key as code_keys
-use Rattle.basic_toml_grammar.specs.Sections.{Key, Rows, row}
 use Rattle.basic_toml_read.specs.KeyText.{key_text_bytes}
-use Rattle.basic_toml_read.specs.SectionView.{Lined, key_of, raw_of, lined_of, rows_from}
+use Rattle.basic_toml_read.specs.SectionView.{key_of, raw_of, lined_of, rows_from}
 
 pub lined_is : (r : Row) → lined_of r ≡ record {
   key = record { offset = (out-Row r).offset; text = key_text_bytes (out-Row r).key };
@@ -26,14 +26,7 @@ and_rows parents r rest =
 pub first_row : (parents : List code_keys.Key) (r : Row) (rest : List Row)
     → rows_from (map key_of parents) (map lined_of (r ∷ rest)) ≡ and_rows parents r rest
 first_row parents r rest =
-    ap (λ (n : ℕ). row (take n (map key_of parents) ++ (lined_of r).key ∷ []) (lined_of r).start (lined_of r).value
-    (rows_from (drop n (map key_of parents)) (map lined_of rest))) (ap (λ (l : Lined). l.parents) (lined_is r))
-    ∙ ap (λ (ks : List Key). row (ks ++ (lined_of r).key ∷ []) (lined_of r).start (lined_of r).value
-    (rows_from (drop (out-Row r).parents (map key_of parents)) (map lined_of rest)))
-    (take-map key_of (out-Row r).parents parents)
-    ∙ ap (λ (ks : List Key). row (map key_of (take (out-Row r).parents parents) ++ (lined_of r).key ∷ [])
-    (lined_of r).start (lined_of r).value (rows_from ks (map lined_of rest)))
-    (drop-map key_of (out-Row r).parents parents)
+    rw (lined_is r, take-map key_of (out-Row r).parents parents, drop-map key_of (out-Row r).parents parents) refl
 
 -- where there are no parents
 pub lone_row : (r : Row) (rest : List Row)
@@ -52,9 +45,7 @@ pub next_row : (parents : List code_keys.Key) (rows : List Row) (i : ℕ) (r : R
     → r ≡ get_or rows i r
     → rows_from (map key_of parents) (map lined_of (drop i rows)) ≡ and_rows parents r (drop (i + 1) rows)
 next_row parents rows i r within is =
-    ap (λ (rs : List Row). rows_from (map key_of parents) (map lined_of rs))
-    (drop_more rows i r within ∙ ap (λ (x : Row). x ∷ drop (i + 1) rows) (sym is))
-    ∙ first_row parents r (drop (i + 1) rows)
+    rw (drop_more rows i r within, ← is) (first_row parents r (drop (i + 1) rows))
 
 -- the parents that are left for the rows after it
 pub parents_left : (n : ℕ) (parents own : List code_keys.Key) → own ≡ take n parents

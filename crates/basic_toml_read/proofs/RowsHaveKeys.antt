@@ -1,21 +1,21 @@
 -- Rows that the code reads have keys at every depth.
-use Rattle.std.proofs.Common.{◌≡◌, true, false, List, [], ◌∷◌, ◌++◌, map, take, drop, refl, ap, ◌∙◌, subst, rules}
+use Rattle.std.proofs.Common.{◌≡◌, true, List, [], ◌∷◌, ◌++◌, map, take, drop, refl, subst, rules}
 use Rattle.std.specs.Prelude.{⊤}
-use Rattle.std.specs.String.{string_bytes}
 use Rattle.basic_toml_grammar.specs.Sections.{Key, Rows, no_rows, row}
-use Rattle.basic_toml_grammar.specs.Sections as sections
-use Rattle.basic_toml_read.specs.declared.section.Raw.{Raw, map-Raw, roll-Raw, the_lemmas}
+use Rattle.basic_toml_grammar.specs.Entering.{has_key, rows_keyed, keyed_within, value_keyed, elements_keyed}
+use Rattle.basic_toml_grammar.specs.Entering.{all_keyed_within}
+use Rattle.basic_toml_read.specs.declared.section.Raw.{Raw, map-Raw, roll-Raw, ind-Raw, the_lemmas}
 use Rattle.basic_toml_read.specs.declared.section.Raw.TheOpen.{Raw-F, Element-F, Row-F, Rows-F}
-use Rattle.basic_toml_read.specs.declared.section.Element.{Element, roll-Element, ind-Element}
+use Rattle.basic_toml_read.specs.declared.section.Element.{Element, out-Element, roll-Element}
 use Rattle.basic_toml_read.specs.declared.section.Key as keys
-use Rattle.basic_toml_read.specs.declared.section.Row.{Row, ind-Row, roll-Row}
+use Rattle.basic_toml_read.specs.declared.section.Row.{Row, out-Row, roll-Row}
 use Rattle.basic_toml_read.specs.declared.section.Rows as tables
 use Rattle.basic_toml_read.specs.declared.section.Rows.{roll-Rows}
 use Rattle.basic_toml_read.specs.declared.section.Section as code
 use Rattle.basic_toml_read.specs.SectionView.{Lined, key_of, raw_of, placed_of, lined_of, elements_from, rows_from}
 use Rattle.basic_toml_read.specs.SectionView.{rows_seen, rows_view, section_of}
-use Rattle.basic_toml_grammar.specs.Entering.{has_key, rows_keyed, keyed_within, value_keyed, elements_keyed}
-use Rattle.basic_toml_grammar.specs.Entering.{all_keyed_within}
+use Rattle.basic_toml_read.proofs.NextRow.{lined_is}
+use Rattle.basic_toml_read.proofs.ViewsSeen.{placed_is}
 
 abbrev OfRaw : Raw → Type 0
 OfRaw v = value_keyed (raw_of v) ≡ true
@@ -77,47 +77,18 @@ Parts (Raw-F.Dotted rs) = OfRows rs.value
 Parts _ = ⊤
 
 raw_kept : (x : Raw-F Raw Element Row tables.Rows) → Parts x → OfRaw (roll-Raw x)
-raw_kept (Raw-F.Integer z) parts =
-    let a : raw_of (roll-Raw (Raw-F.Integer z)) ≡ sections.Raw.integer z = search (rules, the_lemmas) in
-    ap value_keyed a
-raw_kept (Raw-F.Float text) parts =
-    let a : raw_of (roll-Raw (Raw-F.Float text)) ≡ sections.Raw.float text = search (rules, the_lemmas) in
-    ap value_keyed a
-raw_kept Raw-F.True parts =
-    let a : raw_of (roll-Raw Raw-F.True) ≡ sections.Raw.boolean true = search (rules, the_lemmas) in
-    ap value_keyed a
-raw_kept Raw-F.False parts =
-    let a : raw_of (roll-Raw Raw-F.False) ≡ sections.Raw.boolean false = search (rules, the_lemmas) in
-    ap value_keyed a
-raw_kept (Raw-F.String text) parts =
-    let a : raw_of (roll-Raw (Raw-F.String text)) ≡ sections.Raw.string text.now false = search (rules, the_lemmas) in
-    ap value_keyed a
-raw_kept (Raw-F.Escaped text) parts =
-    let a : raw_of (roll-Raw (Raw-F.Escaped text)) ≡ sections.Raw.string (string_bytes text) true =
-    search (rules, the_lemmas) in ap value_keyed a
-raw_kept (Raw-F.Array es) parts =
-    let a : raw_of (roll-Raw (Raw-F.Array es)) ≡ sections.Raw.array (elements_from (map placed_of es.items)) =
-    search (rules, the_lemmas) in ap value_keyed a ∙ parts
-raw_kept (Raw-F.Inline rs) parts =
-    let a : raw_of (roll-Raw (Raw-F.Inline rs)) ≡ sections.Raw.inline (rows_from [] (map lined_of rs.items)) =
-    search (rules, the_lemmas) in ap value_keyed a ∙ parts
-raw_kept (Raw-F.Dotted rs) parts =
-    let a : raw_of (roll-Raw (Raw-F.Dotted rs)) ≡ sections.Raw.inline (rows_view rs.value) =
-    search (rules, the_lemmas) in ap value_keyed a ∙ parts
+raw_kept (Raw-F.Array es) parts = search (rules, the_lemmas)
+raw_kept _ parts = search (rules, the_lemmas)
 
 element_kept : (x : Element-F Raw Element Row tables.Rows) → OfRaw x.value → OfElement (roll-Element x)
-element_kept x parts =
-    let a : (placed_of (roll-Element x)).value ≡ raw_of x.value = search (rules, the_lemmas) in ap value_keyed a ∙ parts
+element_kept x parts = search (rules, the_lemmas)
 
 row_kept : (x : Row-F Raw Element Row tables.Rows) → OfRaw x.value → OfRow (roll-Row x)
-row_kept x parts =
-    let a : (lined_of (roll-Row x)).value ≡ raw_of x.value = search (rules, the_lemmas) in ap value_keyed a ∙ parts
+row_kept x parts = search (rules, the_lemmas)
 
 rows_kept : (x : Rows-F Raw Element Row tables.Rows)
     → keyed_within (rows_from (map key_of x.parents.items) (map lined_of x.rows.items)) ≡ true → OfRows (roll-Rows x)
-rows_kept x parts =
-    let a : rows_view (roll-Rows x) ≡ rows_from (map key_of x.parents.items) (map lined_of x.rows.items) =
-    search (rules, the_lemmas) in ap keyed_within a ∙ parts
+rows_kept x parts = search (rules, the_lemmas)
 
 abbrev Raw1 : Type 0
 Raw1 = (v : Raw) × OfRaw v
@@ -133,33 +104,25 @@ Rows1 = (rs : tables.Rows) × OfRows rs
 
 parts_kept : (y : Raw-F Raw1 Element1 Row1 Rows1)
     → Parts (map-Raw Raw1 Element1 Row1 Rows1 Raw Element Row tables.Rows (λ e. e.0) (λ e. e.0) (λ e. e.0) (λ e. e.0) y)
-parts_kept (Raw-F.Integer z) = tt
-parts_kept (Raw-F.Float text) = tt
-parts_kept Raw-F.True = tt
-parts_kept Raw-F.False = tt
-parts_kept (Raw-F.String text) = tt
-parts_kept (Raw-F.Escaped text) = tt
 parts_kept (Raw-F.Array es) = elements_kept es.items
 parts_kept (Raw-F.Inline rs) = lines_kept [] rs.items
 parts_kept (Raw-F.Dotted rs) = rs.value.1
+parts_kept _ = tt
+
+every_raw : (v : Raw) → OfRaw v
+every_raw =
+    ind-Raw OfRaw OfElement OfRow OfRows (λ x y is. raw_kept x (subst Parts is (parts_kept y)))
+    (λ x y is. element_kept x (subst (λ z. OfRaw z.value) is y.value.1))
+    (λ x y is. row_kept x (subst (λ z. OfRaw z.value) is y.value.1))
+    (λ x y is. rows_kept x (subst
+    (λ z. keyed_within (rows_from (map key_of z.parents.items) (map lined_of z.rows.items)) ≡ true) is
+    (lines_kept (map key_of y.parents.items) y.rows.items)))
 
 pub every_row : (r : Row) → OfRow r
-every_row =
-    ind-Row OfRaw OfElement OfRow OfRows (λ x y is. raw_kept x (subst Parts is (parts_kept y)))
-    (λ x y is. element_kept x (subst (λ z. OfRaw z.value) is y.value.1))
-    (λ x y is. row_kept x (subst (λ z. OfRaw z.value) is y.value.1))
-    (λ x y is. rows_kept x (subst
-    (λ z. keyed_within (rows_from (map key_of z.parents.items) (map lined_of z.rows.items)) ≡ true) is
-    (lines_kept (map key_of y.parents.items) y.rows.items)))
+every_row r = rw (lined_is r) (every_raw (out-Row r).value)
 
 pub every_element : (e : Element) → OfElement e
-every_element =
-    ind-Element OfRaw OfElement OfRow OfRows (λ x y is. raw_kept x (subst Parts is (parts_kept y)))
-    (λ x y is. element_kept x (subst (λ z. OfRaw z.value) is y.value.1))
-    (λ x y is. row_kept x (subst (λ z. OfRaw z.value) is y.value.1))
-    (λ x y is. rows_kept x (subst
-    (λ z. keyed_within (rows_from (map key_of z.parents.items) (map lined_of z.rows.items)) ≡ true) is
-    (lines_kept (map key_of y.parents.items) y.rows.items)))
+every_element e = rw (placed_is e) (every_raw (out-Element e).value)
 
 lines_have_keys : (parents : List Key) (rs : List Row) → keyed_within (rows_from parents (map lined_of rs)) ≡ true
 lines_have_keys parents [] = refl

@@ -1,10 +1,9 @@
 -- Keys, strings and words at an offset, against the grammar.
-use Rattle.std.proofs.Common.{inl, inr, ◌≡◌, ℕ, zero, suc, ◌<◌, Bool, true, false, cond, List, [], ◌∷◌, length}
-use Rattle.std.proofs.Common.{get_or, refl, ap, sym, ◌∙◌, subst, arith, encode_utf8_all, Option, Some, None, Result}
-use Rattle.std.proofs.Common.{Ok, Err}
+use Rattle.std.proofs.Common.{inl, inr, ◌≡◌, ℕ, Bool, true, false, cond, List, [], ◌∷◌, length, refl, ap, sym, ◌∙◌}
+use Rattle.std.proofs.Common.{arith, encode_utf8_all, Option, Some, None, Result, Ok, Err}
 use Rattle.std.specs.Str.{IsUtf8, IsCharBoundary}
 use Rattle.std.specs.Cow.{cow_str_bytes}
-use Rattle.std.specs.Option.{option_or}
+use Rattle.std.proofs.lemmas.List.{nil_from_length}
 use Rattle.std.proofs.lemmas.Str.{encodes-IsAscii}
 use Rattle.basic_toml_tokens.specs.declared.error.Error.{Error}
 use Rattle.basic_toml_tokens.specs.declared.error.Error.TheVariants.{OutOfMemory}
@@ -18,50 +17,36 @@ use Rattle.basic_toml_tokens.specs.String.{is_owned, IsSimple, IsQuoted, IsRefus
 use Rattle.basic_toml_tokens.proofs.TextBetweenOffsets.{length-between}
 use Rattle.basic_toml_tokens.proofs.StepIsTheFold.{offset_is}
 use Rattle.basic_toml_tokens.proofs.TokenIsUnique.{no_break}
+use Rattle.basic_toml_grammar.specs.Sections as sections
+use Rattle.basic_toml_grammar.specs.Entering.{and_then}
+use Rattle.basic_toml_grammar.specs.Grammar.{is_wordlike, word_value}
+use Rattle.basic_toml_grammar.specs.Reader as reader
+use Rattle.basic_toml_grammar.specs.Reader.{string_at, bare_key_at, quoted_key, key_at, string_value_at, word_at}
 use Rattle.basic_toml_explain.specs.declared.stop.Stop.{Stop}
 use Rattle.basic_toml_explain.specs.declared.stop.Why.{Why}
 use Rattle.basic_toml_explain.specs.declared.stop.Why.TheVariants.{Memory, Key, Value}
 use Rattle.basic_toml_read.specs.declared.scalar.Keyed.{Keyed}
 use Rattle.basic_toml_read.specs.declared.key_text.KeyText.{KeyText}
-use Rattle.basic_toml_grammar.specs.Sections as sections
-use Rattle.basic_toml_grammar.specs.Copies.{up_to, needs_copy}
-use Rattle.basic_toml_grammar.specs.Entering.{and_then}
-use Rattle.basic_toml_grammar.specs.Grammar.{is_wordlike, word_value}
-use Rattle.basic_toml_grammar.specs.Reader as reader
-use Rattle.basic_toml_grammar.specs.Reader.{string_at, bare_key_at, quoted_key, key_at, string_value_at, word_at}
 use Rattle.basic_toml_read.specs.KeyText.{key_text_bytes}
 use Rattle.basic_toml_read.specs.StopsAt.{why_of, MissesKey, MissesString, ReadsKeyAt, IsKeyOf}
-use Rattle.basic_toml_grammar.proofs.Grammar.StringsAreRead.{string_found, string_read}
-use Rattle.basic_toml_grammar.proofs.Grammar.CopiesAgree.{copies_agree}
 use Rattle.basic_toml_read.specs.AtPlace.{Leaves}
 use Rattle.basic_toml_read.specs.Word.{value_offset}
+use Rattle.basic_toml_grammar.proofs.Grammar.StringsAreRead.{string_found, string_read}
+use Rattle.basic_toml_grammar.proofs.Grammar.CopiesAgree.{copies_agree}
 use Rattle.basic_toml_explain.proofs.TakenTokenStands.{keylike_small, run_over}
-use Rattle.basic_toml_read.proofs.WordIsRead.{word_text, word_stands, word_missing}
-
-keylike_run_small : (text : Text) (i : ℕ) → get_or (run is_keylike text) i 0 < 128
-keylike_run_small [] i = omega arith
-keylike_run_small (x ∷ text) i = go (is_keylike x.1) refl i (keylike_run_small text)
-  where
-    go : (b : Bool) → is_keylike x.1 ≡ b → (i : ℕ) → ((i : ℕ) → get_or (run is_keylike text) i 0 < 128)
-        → get_or (cond b (x.1 ∷ run is_keylike text) []) i 0 < 128
-    go true e zero h = keylike_small x.1 e
-    go true e (suc i) h = h i
-    go false e i h = omega arith
+use Rattle.basic_toml_read.proofs.GoesOn.{then_from}
+use Rattle.basic_toml_read.proofs.WordIsRead.{run_small, word_text, word_stands, word_missing}
 
 -- the bytes of a bare key
 pub bare_text : (bytes : List ℕ) (at end : ℕ) → IsRun is_keylike bytes at end
     → between bytes at end ≡ run is_keylike (text_at bytes at)
 bare_text bytes at end r = sym r.spelled ∙
-    encodes-IsAscii (run is_keylike (text_at bytes at)) (keylike_run_small (text_at bytes at))
+    encodes-IsAscii (run is_keylike (text_at bytes at)) (run_small is_keylike keylike_small (text_at bytes at))
 
 pub no_bare : (bytes : List ℕ) (at end : ℕ) → IsRun is_keylike bytes at end → at ≡ end
     → run is_keylike (text_at bytes at) ≡ []
 no_bare bytes at end r e = sym (bare_text bytes at end r) ∙
-    empty (between bytes at end) (omega (arith, length-between bytes at end r.forward r.boundary.0))
-  where
-    empty : (l : List ℕ) → length l ≡ 0 → l ≡ []
-    empty [] h = refl
-    empty (x ∷ l) h = cc
+    nil_from_length (between bytes at end) (omega (arith, length-between bytes at end r.forward r.boundary.0))
 
 bare_found : (text : Text) (p : ℕ) → ((x : ℕ × ℕ) (t : Text) → text ≡ x ∷ t → x.0 ≡ p) → (run is_keylike text ≡ [] → ⊥)
     → key_at text ≡ Some (record { offset = p; text = run is_keylike text }, after_run is_keylike text)
@@ -72,27 +57,15 @@ bare_found (x ∷ text) p offset some = go (is_keylike x.1) refl some
         → key_at (x ∷ text) ≡ Some
         (record { offset = p; text = run is_keylike (x ∷ text) }, after_run is_keylike (x ∷ text))
     go false e some = absurd (some refl)
-    go true e some =
-        ap (λ o. option_or o (and_then (string_at (x ∷ text)) quoted_key))
-        (ap (λ b. cond b (Some (
-          record { offset = x.0; text = run is_keylike (x ∷ text) },
-          after_run is_keylike (x ∷ text),
-        )) None) e)
-        ∙ ap (λ (n : ℕ). Some (
-          record { offset = n; text = run is_keylike (x ∷ text) },
-          after_run is_keylike (x ∷ text),
-        )) (offset x text refl)
+    go true e some = rw (e, offset x text refl) refl
 
 pub bare_key : (bytes : List ℕ) (at end : ℕ) (key : KeyText) → IsRun is_keylike bytes at end → (at ≡ end → ⊥)
     → key_text_bytes key ≡ between bytes at end
     → ReadsKeyAt bytes at (Ok (record { key = key; end = end }))
 bare_key bytes at end key r some e =
     let text_is : run is_keylike (text_at bytes at) ≡ key_text_bytes key = sym (bare_text bytes at end r) ∙ sym e in (
-      bare_found (text_at bytes at) at (λ x t h. offset_is bytes at x t h)
-          (λ h. some_run (ap length (bare_text bytes at end r ∙ h)))
-          ∙ ap (λ (t : List ℕ). Some (record { offset = at; text = t }, after_run is_keylike (text_at bytes at)))
-          text_is
-          ∙ ap (λ (t : Text). Some (record { offset = at; text = key_text_bytes key }, t)) (sym r.rest),
+      rw (← text_is, r.rest) (bare_found (text_at bytes at) at (λ x t h. offset_is bytes at x t h)
+          (λ h. some_run (ap length (bare_text bytes at end r ∙ h)))),
       r.boundary,
       omega (arith, r.forward),
     )
@@ -107,13 +80,11 @@ no_bare_key (x ∷ text) e = go (is_keylike x.1) refl e
   where
     go : (b : Bool) → is_keylike x.1 ≡ b → cond b (x.1 ∷ run is_keylike text) [] ≡ [] → bare_key_at (x ∷ text) ≡ None
     go true h e = cc
-    go false h e = ap (λ b. cond b
-        (Some (record { offset = x.0; text = run is_keylike (x ∷ text) }, after_run is_keylike (x ∷ text))) None) h
+    go false h e = rw h refl
 
 key_by_string : (text : Text) (o : Option reader.Quoted) → run is_keylike text ≡ [] → string_at text ≡ o
     → key_at text ≡ and_then o quoted_key
-key_by_string text o e s = ap (λ b. option_or b (and_then (string_at text) quoted_key)) (no_bare_key text e) ∙
-    ap (λ o. and_then o quoted_key) s
+key_by_string text o e s = rw (no_bare_key text e, s) refl
 
 pub no_key : (text : Text) → run is_keylike text ≡ [] → string_at text ≡ None → key_at text ≡ None
 no_key text e s = key_by_string text None e s
@@ -126,25 +97,16 @@ string_is bytes at q s = string_found s.string
 
 pub string_key : (bytes : List ℕ) (at : ℕ) (q : Quoted) (result : Result Keyed Stop)
     → run is_keylike (text_at bytes at) ≡ [] → IsQuoted bytes at q → IsKeyOf q at result → ReadsKeyAt bytes at result
-string_key bytes at q (Ok k) none s (one_line, same, end) = (
-  key_by_string (text_at bytes at) _ none (string_is bytes at q s)
-      ∙ ap (λ b. cond b None (Some (record { offset = at; text = encode_utf8_all s.value }, text_at bytes q.end)))
-      one_line
-      ∙ ap (λ (t : List ℕ). Some (record { offset = at; text = t }, text_at bytes q.end))
-      (sym s.spelled ∙ ap cow_str_bytes (sym same))
-      ∙ ap (λ (n : ℕ). Some (record { offset = at; text = key_text_bytes k.key }, text_at bytes n)) (sym end),
-  subst (λ (n : ℕ). IsCharBoundary bytes n) (sym end) s.boundary,
-  subst (λ (n : ℕ). at < n) (sym end) s.forward,
+string_key bytes at q (Ok k) none s (one_line, same, end) = rw end (
+  key_by_string (text_at bytes at) _ none (string_is bytes at q s) ∙ rw (one_line, same, s.spelled) refl,
+  s.boundary,
+  s.forward,
 )
-string_key bytes at q (Err stop) none s (inl (lines, is)) =
-    subst (λ stop. ReadsKeyAt bytes at (Err stop)) (sym is) (
-      key_by_string (text_at bytes at) _ none (string_is bytes at q s)
-          ∙ ap (λ b. cond b None (Some (record { offset = at; text = encode_utf8_all s.value }, text_at bytes q.end)))
-          lines,
-      λ _. refl,
-    )
-string_key bytes at q (Err stop) none s (inr (is, _, _)) =
-    subst (λ stop. ReadsKeyAt bytes at (Err stop)) (sym is) (tt, λ h. cc)
+string_key bytes at q (Err stop) none s (inl (lines, is)) = rw is (
+  key_by_string (text_at bytes at) _ none (string_is bytes at q s) ∙ rw lines refl,
+  λ _. refl,
+)
+string_key bytes at q (Err stop) none s (inr (is, _, _)) = rw is (tt, λ h. cc)
 
 why_by : (Q : Why → Type 0) (why : Why) (e : Error) → Q Memory → ((e ≡ OutOfMemory → ⊥) → Q why) → Q (why_of e why)
 why_by Q why OutOfMemory m k = m
@@ -180,16 +142,8 @@ module _ (bytes : List ℕ) (at : ℕ) (whole : IsUtf8 bytes) (here : IsCharBoun
       → IsString (text_at bytes at) at m value (text_at bytes end) → body ≡ encode_utf8_all value
       → copied ≡ is_copied m (between bytes at end)
       → string_value_at (text_at bytes at) ≡ Some (value_to end body copied)
-  string_to end {m = m} {value = value} {body = body} there s spelled is =
-      let asks = needs_copy m (up_to (text_at bytes end) (text_at bytes at)) in
-      ap (λ o. and_then o (λ (s : reader.Quoted). Some (record {
-        offset = s.offset;
-        value =
-            sections.Raw.string (encode_utf8_all s.value) (needs_copy s.multiline (up_to s.rest (text_at bytes at)));
-        rest = s.rest;
-      }))) (string_found s)
-      ∙ ap (λ (t : List ℕ). Some (value_to end t asks)) (sym spelled)
-      ∙ ap (λ b. Some (value_to end body b)) (sym (is ∙ copies_agree bytes at end _ m value whole here there s))
+  string_to end {m = m} {value = value} there s spelled is =
+      then_from _ (string_found s) ∙ rw (spelled, is ∙ copies_agree bytes at end _ m value whole here there s) refl
 
   pub string_value : (q : Quoted) → IsQuoted bytes at q
       → string_value_at (text_at bytes at) ≡ Some (value_to q.end (cow_str_bytes q.val) (is_owned q.val))
@@ -210,7 +164,7 @@ pub word_run : (bytes : List ℕ) (at end : ℕ) → IsUtf8 bytes → IsCharBoun
     → Leaves bytes at end (after_run is_wordlike (text_at bytes at)) → (at ≡ end → ⊥)
     → (between bytes at end ≡ run is_wordlike (text_at bytes at)) × (run is_wordlike (text_at bytes at) ≡ [] → ⊥)
 word_run bytes at end whole here l some =
-    let text = (word_text bytes at end whole here l.boundary l.left).1 in (
+    let text = word_text bytes at end whole here l.boundary l.left in (
       text,
       λ e. some (omega (
         arith,
@@ -226,10 +180,8 @@ pub word_value_is : (bytes : List ℕ) (at end : ℕ) (word : List ℕ) (v : sec
     → word_at (text_at bytes at)
     ≡ Some (record { offset = value_offset at at word v; value = v; rest = text_at bytes end })
 word_value_is bytes at end word v e some left told =
-    word_stands bytes at (text_at bytes end) v (λ h. some (ap (run is_wordlike) h)) left (ap word_value (sym e) ∙
-    sym told)
-    ∙ ap (λ (w : List ℕ). Some (record { offset = value_offset at at w v; value = v; rest = text_at bytes end }))
-    (sym e)
+    rw e (word_stands bytes at (text_at bytes end) v (λ h. some (ap (run is_wordlike) h)) left
+    (ap word_value (sym e) ∙ sym told))
 
 pub no_word_value : (bytes : List ℕ) (at : ℕ) (word : List ℕ) → word ≡ run is_wordlike (text_at bytes at)
     → None ≡ word_value word → word_at (text_at bytes at) ≡ None

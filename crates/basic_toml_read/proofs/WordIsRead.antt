@@ -1,29 +1,28 @@
 -- Words as values, against the grammar.
 use Rattle.std.proofs.Common.{inl, inr, ◌≡◌, ℕ, zero, suc, ◌+◌, ◌<◌, ◌≤◌, ◌==◌, Bool, true, false, cond, List, ℤ, ◌-◌}
-use Rattle.std.proofs.Common.{[], ◌∷◌, length, take, drop, get_or, refl, ap, sym, ◌∙◌, subst, arith, Option, Some, None}
+use Rattle.std.proofs.Common.{[], ◌∷◌, length, take, drop, get_or, refl, ap, sym, ◌∙◌, arith, Option, Some, None}
 use Rattle.std.specs.Prelude.{position, codes}
 use Rattle.std.specs.Str.{IsUtf8, IsCharBoundary, bytes_eq}
 use Rattle.std.specs.List.{list_all, prefix_len}
-use Rattle.std.proofs.lemmas.Str.{encodes-IsAscii}
+use Rattle.std.proofs.lemmas.Str.{encodes-IsAscii, IsCharBoundary-after_ascii}
 use Rattle.std.proofs.lemmas.Bool.{and_parts, both_ways, or_from, cases_lt}
 use Rattle.std.proofs.lemmas.List.{at_drop_more, length-drop, length-take-le}
 use Rattle.std.proofs.Math.Seq.{take-length}
 use Rattle.std.proofs.lemmas.List.Sums.{prefix_len-drop_yes}
-use Rattle.std.proofs.lemmas.Str.{IsCharBoundary-after_ascii}
 use Rattle.std.proofs.lemmas.Bool.Decides.{nat_tests}
+use Rattle.basic_toml_numbers.specs.Numbers.{is_decimal, integer_of, first_digits, float_of}
+use Rattle.basic_toml_numbers.proofs.FirstDigits.{are_first}
 use Rattle.basic_toml_tokens.specs.Text.{Text, text_at, run, after_run}
 use Rattle.basic_toml_tokens.specs.Reading.{between, IsRun}
 use Rattle.basic_toml_tokens.proofs.RestsArePartsOfText.{part_later}
 use Rattle.basic_toml_tokens.proofs.StepIsTheFold.{offset_is}
 use Rattle.basic_toml_tokens.proofs.RunsAreFound.{IsRunTest, run_by_bytes}
-use Rattle.basic_toml_numbers.specs.Numbers.{is_decimal, integer_of, first_digits, float_of}
-use Rattle.basic_toml_numbers.proofs.FirstDigits.{are_first}
 use Rattle.basic_toml_grammar.specs.Sections.{Raw}
-use Rattle.basic_toml_grammar.specs.Entering.{and_then}
 use Rattle.basic_toml_grammar.specs.Grammar.{is_wordlike, word_value, number_value, to_period, word_offset}
 use Rattle.basic_toml_grammar.specs.Reader.{word_at}
 use Rattle.basic_toml_read.specs.AtPlace.{Leaves}
 use Rattle.basic_toml_read.specs.Word.{offset_by, value_offset}
+use Rattle.basic_toml_read.proofs.GoesOn.{then_from}
 
 -- a run of characters of words, by bytes
 wordlike_wide : (c : ℕ) → 128 ≤ c → is_wordlike c ≡ false
@@ -32,37 +31,37 @@ wordlike_wide c h = grind (arith, nat_tests, or_from)
 wordlike_test : IsRunTest is_wordlike
 wordlike_test = record { feed = refl; return = refl; wide = λ c d h k. wordlike_wide c h ∙ sym (wordlike_wide d k) }
 
-run_small : (text : Text) (i : ℕ) → get_or (run is_wordlike text) i 0 < 128
-run_small [] i = omega arith
-run_small (x ∷ text) i = go (is_wordlike x.1) refl i (run_small text)
-  where
-    small : is_wordlike x.1 ≡ true → x.1 < 128
-    small e = elim (cases_lt x.1 128) [
-      | inl h ↦ h
-      | inr h ↦
-          absurd (both_ways (is_wordlike x.1) (wordlike_wide x.1 h) e)
-    ]
+wordlike_small : (c : ℕ) → is_wordlike c ≡ true → c < 128
+wordlike_small c e = elim (cases_lt c 128) [
+  | inl h ↦ h
+  | inr h ↦ absurd (both_ways (is_wordlike c) (wordlike_wide c h) e)
+]
 
-    go : (b : Bool) → is_wordlike x.1 ≡ b → (i : ℕ) → ((i : ℕ) → get_or (run is_wordlike text) i 0 < 128)
-        → get_or (cond b (x.1 ∷ run is_wordlike text) []) i 0 < 128
-    go true e zero h = small e
+-- a run of characters below U+0080
+pub run_small : (f : ℕ → Bool) → ((c : ℕ) → f c ≡ true → c < 128) → (text : Text) (i : ℕ)
+    → get_or (run f text) i 0 < 128
+run_small f small [] i = omega arith
+run_small f small (x ∷ text) i = go (f x.1) refl i (run_small f small text)
+  where
+    go : (b : Bool) → f x.1 ≡ b → (i : ℕ) → ((i : ℕ) → get_or (run f text) i 0 < 128)
+        → get_or (cond b (x.1 ∷ run f text) []) i 0 < 128
+    go true e zero h = small x.1 e
     go true e (suc i) h = h i
     go false e i h = omega arith
 
+-- the bytes of a word
 pub word_text : (bytes : List ℕ) (start end : ℕ) → IsUtf8 bytes → IsCharBoundary bytes start
     → IsCharBoundary bytes end → text_at bytes end ≡ after_run is_wordlike (text_at bytes start)
-    → (start ≤ end) × (between bytes start end ≡ run is_wordlike (text_at bytes start))
+    → between bytes start end ≡ run is_wordlike (text_at bytes start)
 word_text bytes start end whole begins ends rest =
     let stop = start + prefix_len is_wordlike (drop start bytes) in
     let r : IsRun is_wordlike bytes start stop = run_by_bytes is_wordlike wordlike_test bytes start whole begins in
     let same : text_at bytes stop ≡ text_at bytes end = r.rest ∙ sym rest in
     let first : stop ≤ end = part_later bytes stop end whole r.boundary.0 ends (0, sym same) in
     let second : end ≤ stop = part_later bytes end stop whole ends.0 r.boundary (0, same) in
-    let e : stop ≡ end = omega arith in (
-      omega (arith, r.forward),
-      ap (between bytes start) (sym e) ∙ sym r.spelled ∙
-          encodes-IsAscii (run is_wordlike (text_at bytes start)) (run_small (text_at bytes start)),
-    )
+    let e : stop ≡ end = omega arith in
+    rw (← e) (sym r.spelled ∙ encodes-IsAscii (run is_wordlike (text_at bytes start))
+    (run_small is_wordlike wordlike_small (text_at bytes start)))
 
 -- what the grammar has at a word
 pub word_stands : (bytes : List ℕ) (start : ℕ) (rest : Text) (v : Raw) → (text_at bytes start ≡ [] → ⊥)
@@ -83,11 +82,7 @@ word_stands bytes start rest v some rest_is e = go (text_at bytes start) refl
         by : (o : Option ℕ) → p + to_period o ≡ offset_by start start o
         by None = omega arith
         by (Some i) = omega arith
-    offset_same t p (Raw.integer z) h = h
-    offset_same t p (Raw.boolean z) h = h
-    offset_same t p (Raw.string z _) h = h
-    offset_same t p (Raw.array z) h = h
-    offset_same t p (Raw.inline z) h = h
+    offset_same t p _ h = h
 
     go : (t : Text) → text_at bytes start ≡ t
         → word_at t ≡ Some (record { offset = value_offset start start (run is_wordlike t) v; value = v; rest = rest })
@@ -95,19 +90,11 @@ word_stands bytes start rest v some rest_is e = go (text_at bytes start) refl
     go (x ∷ t) h =
         let there : word_value (run is_wordlike (x ∷ t)) ≡ Some v =
         ap (λ (t : Text). word_value (run is_wordlike t)) (sym h) ∙ e in
-        ap (λ o. and_then o (λ v. Some
-        (record { offset = word_offset v x.0 (x ∷ t); value = v; rest = after_run is_wordlike (x ∷ t) }))) there
-        ∙ ap (λ (n : ℕ). Some (record { offset = n; value = v; rest = after_run is_wordlike (x ∷ t) }))
-        (offset_same (x ∷ t) x.0 v (offset_is bytes start x t h))
-        ∙ ap (λ (u : Text). Some
-        (record { offset = value_offset start start (run is_wordlike (x ∷ t)) v; value = v; rest = u }))
-        (ap (after_run is_wordlike) (sym h) ∙ sym rest_is)
+        then_from _ there ∙ rw (offset_same (x ∷ t) x.0 v (offset_is bytes start x t h), rest_is, h) refl
 
 pub word_missing : (t : Text) → word_value (run is_wordlike t) ≡ None → word_at t ≡ None
 word_missing [] e = refl
-word_missing (x ∷ t) e =
-    ap (λ o. and_then o (λ v. Some
-    (record { offset = word_offset v x.0 (x ∷ t); value = v; rest = after_run is_wordlike (x ∷ t) }))) e
+word_missing (x ∷ t) e = then_from _ e
 
 -- digits that a word begins with
 decimal_in_word : (c : ℕ) → is_decimal c ≡ true → (c < 128) × (is_wordlike c ≡ true)
@@ -118,10 +105,7 @@ pub known_digits : (bytes : List ℕ) (at count : ℕ) → IsUtf8 bytes → IsCh
     → (prefix_len is_wordlike (drop at bytes) ≡ count + prefix_len is_wordlike (drop (at + count) bytes))
     × IsCharBoundary bytes (at + count)
 known_digits bytes at zero whole here fits all =
-    let same : at ≡ at + 0 = omega arith in (
-      ap (λ i. prefix_len is_wordlike (drop i bytes)) same ∙ omega arith,
-      subst (IsCharBoundary bytes) same here,
-    )
+    let same : at ≡ at + 0 = omega arith in rw (← same) (omega arith, here)
 known_digits bytes at (suc n) whole here fits all =
     let within : at < length bytes = omega (arith, fits) in
     let parts = and_parts (is_decimal (get_or bytes at 0)) (list_all is_decimal (take n (drop (at + 1) bytes)))
@@ -129,13 +113,8 @@ known_digits bytes at (suc n) whole here fits all =
     let first = decimal_in_word (get_or bytes at 0) parts.0 in
     let more = known_digits bytes (at + 1) n whole (IsCharBoundary-after_ascii bytes at whole within first.0)
     (omega (arith, fits)) parts.1 in
-    let same : at + 1 + n ≡ at + suc n = omega arith in (
-      prefix_len-drop_yes is_wordlike bytes at 0 within first.1
-          ∙ ap (λ k. 1 + k) more.0
-          ∙ ap (λ i. 1 + (n + prefix_len is_wordlike (drop i bytes))) same
-          ∙ omega arith,
-      subst (IsCharBoundary bytes) same more.1,
-    )
+    let same : at + 1 + n ≡ at + suc n = omega arith in
+    rw (← same) (omega (arith, prefix_len-drop_yes is_wordlike bytes at 0 within first.1, more.0), more.1)
 
 -- digits are neither `true` nor `false`
 digits_value : (word : List ℕ) (z : ℤ) → 0 < length word → list_all is_decimal word ≡ true
@@ -157,14 +136,12 @@ pub record HasDigits (bytes : List ℕ) (at count : ℕ) (z : ℤ) : Type 0 wher
       → Leaves bytes at (at + count) (after_run is_wordlike (text_at bytes at))
   pub value : Some (Raw.integer z) ≡ word_value (between bytes at (at + count))
 
-pub digits_here : (seen bytes : List ℕ) (at count : ℕ) (z : ℤ) → seen ≡ bytes → IsUtf8 bytes
+pub digits_here : {seen bytes : List ℕ} {count : ℕ} {z : ℤ} (at : ℕ) → seen ≡ bytes → IsUtf8 bytes
     → IsCharBoundary bytes at → Some (z, count) ≡ first_digits (take (length seen - at) (drop at seen))
     → HasDigits bytes at count z
-digits_here seen bytes at count z same whole here told =
+digits_here {seen = seen} {bytes = bytes} {count = count} {z = z} at same whole here told =
     let slice : take (length seen - at) (drop at seen) ≡ drop at bytes =
-    ap (λ (cs : List ℕ). take (length cs - at) (drop at cs)) same
-    ∙ ap (λ (n : ℕ). take n (drop at bytes)) (sym (length-drop at bytes))
-    ∙ take-length (drop at bytes) in
+    rw (same, ← length-drop at bytes) (take-length (drop at bytes)) in
     let first = are_first (drop at bytes) z count (told ∙ ap first_digits slice) in
     let all = first.digits in
     let fits : at + count ≤ length bytes = omega (arith, first.within, length-drop at bytes, here.0) in

@@ -1,8 +1,7 @@
-use Rattle.std.proofs.Common.{◌≡◌, map, ◌∙◌, ap, subst, refl, Bool, List, Ok, ℕ}
+use Rattle.std.proofs.Common.{◌≡◌, map, ◌∙◌, ap, refl}
 use Rattle.basic_toml_explain.specs.Stop.{no_memory}
 use Rattle.basic_toml_read.specs.SectionView.{section_of}
-use Rattle.basic_toml_read.specs.SectionsRead.{IsStop, ReadsNext, ReadsList}
-use Rattle.basic_toml_read.proofs.KeysTold.{stopped}
+use Rattle.basic_toml_read.proofs.StandsIn.{is_err}
 use Rattle.basic_toml_read.proofs.SectionsHandedOut.{refused_after}
 use Rattle.basic_toml_read.proofs.reader.list.Goals as goal
 
@@ -12,8 +11,7 @@ returns-in_err-push c =
     let reader = c.next.new.self in
     let text : reader.text.now ≡ c.args.text.now =
     ap (λ t. t.now) c.in_ok-next.ensures.text ∙ c.loop-section.invariant.0 in
-    stopped (ReadsList c.args.text.now) c.from_residual-in_err-push.result no_memory c.from_residual-in_err-push.ensures.1
-    (subst (λ (bytes : List ℕ). IsStop bytes no_memory) text
+    let r = c.from_residual-in_err-push in
+    rw (is_err r.result no_memory r.ensures.1, ← text)
     (refused_after reader list (section_of c.next.new.section) no_memory
-    (subst (λ (b : Bool). ReadsNext list reader c.next.new.section (Ok b)) c.if-branch.true
-    (c.in_ok-next.ensures.read list c.loop-section.invariant.3)) refl))
+    (rw c.if-branch.true at c.in_ok-next.ensures.read list c.loop-section.invariant.3) refl)

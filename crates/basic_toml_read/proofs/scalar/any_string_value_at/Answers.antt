@@ -1,11 +1,7 @@
-use Rattle.std.proofs.Common.{◌≡◌, ◌∙◌, refl, sym, subst}
+use Rattle.std.proofs.Common.{◌∙◌, refl}
 use Rattle.std.specs.Cow.{cow_str_bytes}
-use Rattle.basic_toml_tokens.specs.Text.{text_at}
 use Rattle.basic_toml_tokens.specs.String.{is_owned}
-use Rattle.basic_toml_explain.specs.declared.stop.Stop.{Stop}
-use Rattle.basic_toml_explain.specs.declared.stop.Why.TheVariants.{Value}
 use Rattle.basic_toml_grammar.specs.Sections as sections
-use Rattle.basic_toml_read.specs.StopsAt.{MissesString}
 use Rattle.basic_toml_read.proofs.ScalarsRead.{string_value, string_refused}
 use Rattle.basic_toml_read.proofs.scalar.any_string_value_at.Goals as goal
 
@@ -20,8 +16,7 @@ returns-in-Ok-clause-read c = record {
 
 pub returns-in-Err-clause-read : goal.returns-in-Err-clause-read
 returns-in-Err-clause-read c =
-    subst (λ (stop : Stop). MissesString stop.why (text_at c.args.text.now c.args.at)
-    × (stop.why ≡ Value → stop.at ≡ c.args.at)) (sym c.refused.ensures)
+    rw c.refused.ensures
     (string_refused c.args.text.now c.args.at c.in-Err.refusal c.in-Err.ensures, λ _. refl)
 
 pub returns-in-Ok-clause-kept : goal.returns-in-Ok-clause-kept

@@ -1,8 +1,4 @@
-use Rattle.std.proofs.Common.{◌≡◌, refl, sym, subst}
-use Rattle.basic_toml_tokens.specs.Text.{text_at}
-use Rattle.basic_toml_explain.specs.declared.stop.Stop.{Stop}
-use Rattle.basic_toml_explain.specs.declared.stop.Why.TheVariants.{Key}
-use Rattle.basic_toml_read.specs.StopsAt.{MissesKey}
+use Rattle.std.proofs.Common.{refl}
 use Rattle.basic_toml_read.proofs.ScalarsRead.{string_key, key_refused}
 use Rattle.basic_toml_read.proofs.scalar.quoted_key_at.Goals as goal
 
@@ -12,6 +8,5 @@ returns-in-Ok-clause-read c =
 
 pub returns-in-Err-clause-read : goal.returns-in-Err-clause-read
 returns-in-Err-clause-read c =
-    subst (λ (stop : Stop). MissesKey stop.why (text_at c.args.text.now c.args.at)
-    × (stop.why ≡ Key → stop.at ≡ c.args.at)) (sym c.refused.ensures)
+    rw c.refused.ensures
     (key_refused c.args.text.now c.args.at c.in-Err.refusal c.requires.none c.in-Err.ensures, λ _. refl)

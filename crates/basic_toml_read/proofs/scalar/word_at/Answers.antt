@@ -1,21 +1,17 @@
-use Rattle.std.proofs.Common.{ℕ, Some, refl, ap, sym, ◌∙◌, arith}
+use Rattle.std.proofs.Common.{refl, ap, sym, ◌∙◌, arith, rules, length, ◌≡◌, ◌≤◌, ◌+◌}
 use Rattle.std.specs.Option.{option_map}
-use Rattle.basic_toml_tokens.specs.Text.{text_at}
-use Rattle.basic_toml_read.specs.Word.{raw_of}
-use Rattle.basic_toml_read.proofs.ScalarsRead.{no_word_run, word_run, word_value_is, no_word_value}
-use Rattle.basic_toml_read.proofs.ViewsSeen.{integer_of}
-use Rattle.basic_toml_read.proofs.scalar.word_at.Goals.{in-Some+else-ends_word, in-None}
-use Rattle.basic_toml_read.proofs.scalar.word_at.Goals as goal
-use Rattle.std.proofs.Common.{subst, rules, length, ◌≡◌, ◌≤◌, ◌+◌}
 use mir.Syntax.{w64}
 use mir.Val.{SFits}
 use Rattle.std.proofs.lemmas.Int.{to_z-of_z}
+use Rattle.basic_toml_tokens.specs.Text.{text_at}
 use Rattle.basic_toml_tokens.specs.Reading.{between}
 use Rattle.basic_toml_grammar.specs.Sections.{Raw}
-use Rattle.std.specs.Str.{IsCharBoundary}
-use Rattle.basic_toml_tokens.specs.Text.{after_run}
-use Rattle.basic_toml_grammar.specs.Grammar.{is_wordlike}
+use Rattle.basic_toml_read.specs.declared.section.Raw.{the_lemmas}
+use Rattle.basic_toml_read.specs.Word.{raw_of}
+use Rattle.basic_toml_read.proofs.ScalarsRead.{no_word_run, word_run, word_value_is, no_word_value}
 use Rattle.basic_toml_read.proofs.WordIsRead.{digits_here}
+use Rattle.basic_toml_read.proofs.scalar.word_at.Goals.{in-Some+else-ends_word, in-None}
+use Rattle.basic_toml_read.proofs.scalar.word_at.Goals as goal
 
 pub returns-then-at-after-clause-read : goal.returns-then-at-after-clause-read
 returns-then-at-after-clause-read c =
@@ -43,15 +39,8 @@ returns-clause-read c =
     record {
       raw = raw_of c.in-Some-2.value;
       seen = c.raw.ensures;
-      is =
-          word_value_is c.args.text.now c.args.at c.end_of_word-after.result c.range-word.result.now
-          (raw_of c.in-Some-2.value) (c.range-word.ensures.value ∙ word.0) word.1 l.left told
-          ∙ ap (λ (n : ℕ). Some (record {
-            offset = n;
-            value = raw_of c.in-Some-2.value;
-            rest =
-                text_at c.args.text.now c.end_of_word-after.result;
-          })) (sym c.value_offset.ensures);
+      is = rw c.value_offset.ensures (word_value_is c.args.text.now c.args.at c.end_of_word-after.result
+          c.range-word.result.now (raw_of c.in-Some-2.value) (c.range-word.ensures.value ∙ word.0) word.1 l.left told);
       boundary = l.boundary;
       later = omega (arith, l.forward, c.if-at-after.false);
     }
@@ -59,28 +48,23 @@ returns-clause-read c =
 pub overflow_add-end : goal.overflow_add-end
 overflow_add-end c =
     let within : c.args.at + c.in-Some.count ≤ length c.args.text.now =
-    (digits_here c.as_bytes.result.now c.args.text.now c.args.at c.in-Some.count c.in-Some.number
-    c.as_bytes.ensures.value c.utf8.text c.requires c.in-Some.ensures).within in
+    (digits_here c.args.at c.as_bytes.ensures.value c.utf8.text c.requires c.in-Some.ensures).within in
     search rules
 
 pub end_of_word-after-requires-clause-boundary : goal.end_of_word-after-requires-clause-boundary
 end_of_word-after-requires-clause-boundary c =
     elim c.match-first_digits.branch [
-      | in-Some+else-ends_word w ↦
-          subst (IsCharBoundary c.args.text.now) (sym w.from-is)
-          (digits_here c.as_bytes.result.now c.args.text.now c.args.at w.in-Some.count w.in-Some.number
-          c.as_bytes.ensures.value c.utf8.text c.requires w.in-Some.ensures).boundary
-      | in-None w ↦ subst (IsCharBoundary c.args.text.now) (sym w.from-is) c.requires
+      | in-Some+else-ends_word w ↦ rw w.from-is
+          (digits_here c.args.at c.as_bytes.ensures.value c.utf8.text c.requires w.in-Some.ensures).boundary
+      | in-None w ↦ rw w.from-is c.requires
     ]
 
 pub end_of_word-after-requires-clause-same_rest : goal.end_of_word-after-requires-clause-same_rest
 end_of_word-after-requires-clause-same_rest c =
     elim c.match-first_digits.branch [
-      | in-Some+else-ends_word w ↦
-          ap (λ (i : ℕ). after_run is_wordlike (text_at c.args.text.now i)) w.from-is
-          ∙ (digits_here c.as_bytes.result.now c.args.text.now c.args.at w.in-Some.count w.in-Some.number
-          c.as_bytes.ensures.value c.utf8.text c.requires w.in-Some.ensures).behind
-      | in-None w ↦ ap (λ (i : ℕ). after_run is_wordlike (text_at c.args.text.now i)) w.from-is
+      | in-Some+else-ends_word w ↦ rw w.from-is
+          (digits_here c.args.at c.as_bytes.ensures.value c.utf8.text c.requires w.in-Some.ensures).behind
+      | in-None w ↦ rw w.from-is refl
     ]
 
 pub returns-then-ends_word-clause-read : goal.returns-then-ends_word-clause-read
@@ -89,15 +73,14 @@ returns-then-ends_word-clause-read c =
     let at = c.args.at in
     let count = c.in-Some.count in
     let z = c.in-Some.number in
-    let here = digits_here c.as_bytes.result.now bytes at count z c.as_bytes.ensures.value c.utf8.text c.requires
-    c.in-Some.ensures in
+    let here = digits_here at c.as_bytes.ensures.value c.utf8.text c.requires c.in-Some.ensures in
     let some : at ≡ at + count → ⊥ = λ e. omega (arith, e, here.some) in
     let leaves = here.ends (c.ends_word.ensures c.if-ends_word.true) in
     let word = word_run bytes at (at + count) c.utf8.text c.requires leaves some in
     let fits : SFits w64 z = search rules in
     record {
       raw = Raw.integer z;
-      seen = rw (to_z-of_z w64 z fits) (integer_of z);
+      seen = rw (to_z-of_z w64 z fits) (search (rules, the_lemmas));
       is = word_value_is bytes at (at + count) (between bytes at (at + count)) (Raw.integer z) word.0 word.1 leaves.left
           here.value;
       boundary = leaves.boundary;

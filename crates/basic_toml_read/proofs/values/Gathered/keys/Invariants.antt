@@ -1,5 +1,5 @@
 use Rattle.std.proofs.Common.{◌-◌, length}
-use Rattle.basic_toml_read.proofs.KeysGathered.{KeysSoFar}
+use Rattle.basic_toml_read.proofs.KeysTold.{KeysSoFar}
 use Rattle.basic_toml_read.proofs.values.Gathered.keys.Given as goal
 
 abbrev pub invariant-loop-keyed : goal.invariant-loop-keyed

@@ -1,13 +1,14 @@
-use Rattle.std.proofs.Common.{◌≡◌, ◌∙◌, ap, arith, rules, None}
+use Rattle.std.proofs.Common.{◌≡◌, ◌∙◌, ap, arith, None, Err}
 use Rattle.basic_toml_tokens.specs.Punctuation.{IsPunctuationEnd}
 use Rattle.basic_toml_tokens.specs.Text.{text_at}
 use Rattle.basic_toml_grammar.specs.Reader.{end_of, line_end_at}
+use Rattle.basic_toml_read.proofs.StandsIn.{is_err}
 use Rattle.basic_toml_read.proofs.LeftAfter.{line_of}
 use Rattle.basic_toml_read.proofs.RowsRead.{NoHeader, bracket_no_gap, comment_line, comment_stops, line_here}
 use Rattle.basic_toml_read.proofs.RowsRead.{other_line, row_stops, rows_bracket, rows_empty, rows_more, rows_over}
 use Rattle.basic_toml_read.proofs.RowsRead.{rows_start, sign_lacks, sign_stands, unended_stops}
-use Rattle.basic_toml_read.proofs.values.Gathered.rows.Goals as goal
 use Rattle.basic_toml_read.proofs.values.Gathered.rows.Goals.{After-after_comment, Else-is_some, Else-is_some-2}
+use Rattle.basic_toml_read.proofs.values.Gathered.rows.Goals as goal
 
 -- a line without a header
 no_header : (c : Else-is_some) → NoHeader c.args.text.now c.loop-at.at c.after_blanks-front.result
@@ -82,31 +83,33 @@ returns-in_err-at c =
     let same = comment p.After-after_comment in
     let sign = sign_stands 35 c.args.text.now c.after_blanks-front.result c.after_punctuation-in-loop-at.result
     c.after_punctuation-in-loop-at.ensures c.if-is_some-2.ensures in
-    let e = c.in_err-at.ensures in
-    let is = comment_stops c.loop-at.invariant l.line l.none (ap end_of same ∙ e.read.0) sign.0 c.after_comment.result
-    sign.1 same c.in_err-at.field-0.0 e.read c.from_residual.result c.from_residual.ensures.1 in
-    record { read = is.read; inside = search rules; gaps = is.gaps; deep = is.deep; hole = is.hole }
+    let e = c.in_err-at.ensures.read in
+    let r = c.from_residual in
+    rw (is_err r.result c.in_err-at.field-0.0 r.ensures.1 ∙ ap (λ s. Err s) e.1)
+    (comment_stops c.loop-at.invariant l.line l.none (ap end_of same ∙ e.0) sign.0 c.after_comment.result sign.1 same
+    e.0 c.after_comment.ensures.boundary)
 
 pub returns-in_err-end-in-None : goal.returns-in_err-end-in-None
 returns-in_err-end-in-None c =
     let p = goal.at.returns-in_err-end-in-None c in
     let l = no_header p.Else-is_some in
+    let stop = c.in_err-end-in-None.field-0.0 in
     let e = c.in_err-end-in-None.ensures in
     let r = c.from_residual-in_err-end-in-None in
-    let is = row_stops c.loop-at.invariant l.line l.none (same_end p.Else-is_some-2 ∙ c.in-None.ensures)
-    c.row.new.self (no_hash p.Else-is_some-2) c.in_err-end-in-None.field-0.0 e.read e.deep e.hole r.result
-    r.ensures.1 in
-    record { read = is.read; inside = search rules; gaps = is.gaps; deep = is.deep; hole = is.hole }
+    rw (is_err r.result stop r.ensures.1)
+    (row_stops c.loop-at.invariant l.line l.none (same_end p.Else-is_some-2 ∙ c.in-None.ensures) c.row.new.self
+    (no_hash p.Else-is_some-2) stop e.read e.deep e.hole e.inside)
 
 pub returns-in_err-at-in-None : goal.returns-in_err-at-in-None
 returns-in_err-at-in-None c =
     let p = goal.at.returns-in_err-at-in-None c in
     let l = no_header p.Else-is_some in
+    let stop = c.in_err-at-in-None.field-0.0 in
+    let e = c.in_err-at-in-None.ensures in
     let r = c.from_residual-in_err-at-in-None in
-    let is = unended_stops c.loop-at.invariant l.line l.none (same_end p.Else-is_some-2 ∙ c.in-None.ensures)
-    c.in_ok-end-in-None.ensures.read c.in_err-at-in-None.field-0.0 c.in_err-at-in-None.ensures.read r.result
-    r.ensures.1 in
-    record { read = is.read; inside = search rules; gaps = is.gaps; deep = is.deep; hole = is.hole }
+    rw (is_err r.result stop r.ensures.1)
+    (unended_stops c.loop-at.invariant l.line l.none (same_end p.Else-is_some-2 ∙ c.in-None.ensures)
+    c.in_ok-end-in-None.ensures.read stop e.read e.inside)
 
 pub returns-clause-read : goal.returns-clause-read
 returns-clause-read c = rows_over c.loop-at.invariant (omega (arith, c.loop-at-test.false))

@@ -1,0 +1,178 @@
+-- A row after its keys: what is read of it, what is too deep in its value, and the holes of its value.
+use Rattle.std.proofs.Common.{◌≡◌, ◌≤◌, ◌+◌, ◌-◌, ℕ, suc, List, [], ◌∷◌, ◌++◌, length, refl, ap, sym, ◌∙◌, arith}
+use Rattle.std.proofs.Common.{length-append, Some, None, ◌<◌, subst, Option, Vec, Global}
+use Rattle.std.proofs.lemmas.List.{length-map}
+use Rattle.basic_toml_value.specs.Nesting.{nesting_limit}
+use Rattle.basic_toml_tokens.specs.Text.{Text, text_at, after_blanks}
+use Rattle.basic_toml_tokens.specs.Punctuation.{IsPunctuationEnd}
+use Rattle.basic_toml_grammar.specs.Sections.{Key}
+use Rattle.basic_toml_grammar.specs.Grammar.{IsKeys}
+use Rattle.basic_toml_grammar.specs.DeepStops.{DeepRow, DeepValue, value}
+use Rattle.basic_toml_grammar.specs.Holes.{Hole, HoleInRow}
+use Rattle.basic_toml_grammar.specs.Reader.{char_at, if_found, string_at, word_at, string_value_at}
+use Rattle.basic_toml_grammar.specs.Entering.{and_then}
+use Rattle.basic_toml_grammar.specs.Levels.{value_level}
+use Rattle.basic_toml_grammar.specs.Reader as reader
+use Rattle.basic_toml_explain.specs.StopHoles.{StopsFor}
+use Rattle.basic_toml_explain.specs.declared.stop.Why.TheVariants.{Equals}
+use Rattle.basic_toml_explain.specs.declared.stop.Why.{Why}
+use Rattle.basic_toml_read.specs.declared.values.Gathered.{Gathered}
+use Rattle.basic_toml_read.specs.declared.values.LastKey.{LastKey}
+use Rattle.basic_toml_read.specs.AtPlace.{Leaves}
+use Rattle.basic_toml_read.specs.FrontOf.{keys_of, value_of, row_of}
+use Rattle.basic_toml_read.specs.Gathers.{IsLastKey, Lines, row_level, IsRowRead, IsValueRead}
+use Rattle.basic_toml_read.specs.KeyText.{key_text_bytes}
+use Rattle.basic_toml_read.specs.StopsReached.{LeadsTo, in_value, in_row}
+use Rattle.basic_toml_read.specs.declared.section.Row.{Row, roll-Row}
+use Rattle.basic_toml_read.specs.declared.scalar.Valued.{Valued}
+use Rattle.basic_toml_read.specs.SectionView.{key_of}
+use Rattle.basic_toml_read.specs.StopsAt.{Misses}
+use Rattle.basic_toml_grammar.proofs.Grammar.ReaderIsSound.{keys_read}
+use Rattle.basic_toml_grammar.proofs.Nesting.WithinTheLimit as within
+use Rattle.basic_toml_grammar.proofs.Grammar.StringsAreRead.{then_some}
+use Rattle.basic_toml_read.proofs.StandsIn.{SameDeep, nothing_fits}
+use Rattle.basic_toml_read.proofs.LeftAfter.{sign_after, sign_missing, sign_there}
+use Rattle.basic_toml_read.proofs.EnoughSteps.{row_is}
+use Rattle.basic_toml_read.proofs.ViewsSeen.{row_before}
+use Rattle.basic_toml_read.proofs.GoesOn.{misses_on, then_from}
+
+-- keys that are found stand there
+pub keys_there : (text : Text) (r : List Key × Text) → keys_of text ≡ Some r → IsKeys text r.0 r.1
+unfolding keys_of
+keys_there text r e = keys_read (suc (length text)) text r e
+
+-- a row by its keys and its value
+assigned : List Key → reader.Valued → reader.Assigned
+assigned keys v = record { keys = keys; offset = v.offset; value = v.value; rest = v.rest }
+
+-- one without keys
+pub keys_missed : (level : ℕ) (text : Text) (w : Why)
+    → Misses w (keys_of text) (λ keys. nesting_limit < level + length keys.0 - 1)
+    → Misses w (row_of text) (λ r. nesting_limit < row_level level r)
+keys_missed level text w m =
+    misses_on w (keys_of text) _ _ _ (row_is text)
+    (λ keys y f h. let (s, s_is, g) = then_some (char_at 61 (after_blanks keys.1)) _ y f in
+    let (v, v_is, same) = then_some (value_of (after_blanks s.1)) _ y g in
+    let there : record { keys = keys.0; offset = v.offset; value = v.value; rest = v.rest } ≡ y = cc in
+    subst (λ r. nesting_limit < row_level level r) there (omega arith))
+    m
+
+-- a row
+abbrev row_of_value : LastKey → ℕ → Valued → Row
+row_of_value last parents v = roll-Row (record {
+  key = last.key;
+  offset = last.offset;
+  parents = parents;
+  start = v.offset;
+  value = v.value;
+})
+
+abbrev pub with_rows : Gathered → Vec Row Global → Gathered
+with_rows g rows = record { alloc = g.alloc; elements = g.elements; parents = g.parents; rows = rows }
+
+module _ {bytes : List ℕ} {at level : ℕ} {old new : Gathered} {last : LastKey}
+    (k : IsLastKey bytes at level old new last) where
+  -- its keys, and the level of the last
+  abbrev pub all_keys : List Key
+  all_keys = k.front ++ record { offset = last.offset; text = key_text_bytes last.key } ∷ []
+
+  pub level_of_last : level + length all_keys - 1 ≡ last.level
+  level_of_last =
+      omega (
+        arith,
+        k.level_is,
+        length-append k.front (record { offset = last.offset; text = key_text_bytes last.key } ∷ []),
+      )
+
+  keys_stand : IsKeys (text_at bytes at) all_keys k.mid
+  keys_stand = keys_there (text_at bytes at) (all_keys, k.mid) k.is
+
+  keys_within : level + length all_keys - 1 ≤ nesting_limit
+  keys_within = omega (arith, level_of_last, k.limit)
+
+  row_by : (o : Option (ℕ × Text)) → char_at 61 (text_at bytes last.end) ≡ o → row_of (text_at bytes at)
+      ≡ and_then o (λ s. and_then (value_of (after_blanks s.1)) (λ v. Some (assigned all_keys v)))
+  unfolding assigned
+  row_by o e = row_is (text_at bytes at) ∙ then_from _ k.is ∙ then_from _ (ap (char_at 61) (sym k.after) ∙ e)
+
+  pub no_equals : IsPunctuationEnd 61 bytes last.end None → row_of (text_at bytes at) ≡ None
+  no_equals sign = row_by None (sign_missing 61 (text_at bytes last.end) sign)
+
+  -- no equals sign
+  module _ (none : IsPunctuationEnd 61 bytes last.end None) where
+    pub row_unassigned : (p : ℕ) → DeepRow nesting_limit level (text_at bytes at) p → ⊥
+    row_unassigned p d =
+        within.no_equals keys_stand keys_within (ap (char_at 46) (sym k.after) ∙ k.over)
+        (ap (char_at 61) (sym k.after) ∙ sign_missing 61 (text_at bytes last.end) none) d
+
+    pub no_equals_in_row : (end : Hole) → StopsFor (in_row (text_at bytes at) end).HoleIn
+        (in_row (text_at bytes at) end).behind Equals (text_at bytes last.end)
+    no_equals_in_row end = record {
+      hole = rw k.after (HoleInRow.after_keys keys_stand);
+      missing = nothing_fits Hole.after_keys 61 46 (text_at bytes last.end)
+          (sign_missing 61 (text_at bytes last.end) none) k.over (λ c. refl);
+    }
+
+  -- the value
+  module _ {next start : ℕ} (left : Leaves bytes next start (after_blanks (text_at bytes next)))
+      (sign : IsPunctuationEnd 61 bytes last.end (Some next)) where
+    pub value_deep : SameDeep (DeepValue nesting_limit last.level (text_at bytes start))
+        (DeepRow nesting_limit level (text_at bytes at))
+    value_deep =
+        let equals = sign_after bytes last.end next 61 k.after sign in
+        rw (left.left, ← level_of_last) (record {
+          leads = λ p d. value keys_stand keys_within equals d;
+          backs = λ p d. within.past_equals keys_stand keys_within equals d;
+        })
+
+    pub to_its_value : (end : Hole) → LeadsTo (in_value (text_at bytes start) end) (in_row (text_at bytes at) end)
+    to_its_value end =
+        let equals = sign_after bytes last.end next 61 k.after sign in
+        rw left.left (record { on = λ h at d. HoleInRow.in_value keys_stand equals d; same = λ at d. refl })
+
+    row_by_value : row_of (text_at bytes at)
+        ≡ and_then (value_of (text_at bytes start)) (λ v. Some (assigned all_keys v))
+    row_by_value = rw left.left (row_by (Some (last.end, text_at bytes next)) (sign_there sign.0))
+
+    pub value_missing : (w : Why)
+        → Misses w (value_of (text_at bytes start)) (λ v. nesting_limit < value_level last.level v.value)
+        → Misses w (row_of (text_at bytes at)) (λ r. nesting_limit < row_level level r)
+    unfolding assigned
+    value_missing w m =
+        misses_on w (value_of (text_at bytes start)) _ _ _ row_by_value
+        (λ v y f h. let same : assigned all_keys v ≡ y = cc in
+        rw (← same) (omega (arith, h, ap (λ n. value_level n v.value) level_of_last)))
+        m
+
+    pub row_there : {new' : Gathered} {v : Valued} → IsValueRead bytes start last.level new new' v
+        → (rows : Vec Row Global) → rows.items ≡ new'.rows.items ++ row_of_value last (last.level - level) v ∷ []
+        → IsRowRead bytes at level old (with_rows new' rows) v.end
+    unfolding assigned
+    row_there {v = v} r rows pushed =
+        let n = last.level - level in
+        let made = row_of_value last n v in
+        record {
+          found = assigned all_keys (record { offset = v.offset; value = r.found.raw; rest = text_at bytes v.end });
+          is = row_by_value ∙ then_from _ r.found.is;
+          rest = refl;
+          added = record { parents = k.parents; rows = made ∷ [] };
+          pushed =
+              let keys = ap (λ (l : Lines). l.parents) r.keeps.lines ∙ k.pushed in
+              let rows = ap (λ (l : Lines). l.rows) r.keeps.lines ∙ k.rows in
+              cc;
+          seen =
+              let count : n ≡ length k.parents =
+              omega (arith, k.level_is, ap (λ (ks : List Key). length ks) k.seen, length-map k.parents key_of) in
+              λ rest. rw (← k.seen)
+              (row_before last.key last.offset n v.offset v.value r.found.raw k.parents rest r.found.seen count);
+          elements = r.keeps.elements ∙ k.elements;
+          limit = omega (
+            arith,
+            r.limit,
+            k.limit,
+            level_of_last,
+            ap (λ n. value_level n r.found.raw) level_of_last,
+          );
+          boundary = r.found.boundary;
+          later = omega (arith, k.later, sign.2, left.forward, r.found.later);
+        }

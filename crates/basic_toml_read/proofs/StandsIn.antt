@@ -1,0 +1,126 @@
+-- What a reading answers of a stop, and what is known of it in a reading that this one stands in: what is too deep in
+-- the one is so in the other, and the holes of the one are holes of the other.
+use Rattle.std.proofs.Common.{◌≡◌, ℕ, List, ap, Result, Ok, Err, refl, Option, None, ◌∙◌, subst, IfErr, inl, inr, ◌==◌}
+use Rattle.std.proofs.Common.{◌||◌, sym, eqb-true}
+use Rattle.std.specs.Result.{IsErrAnd}
+use Rattle.std.proofs.lemmas.Bool.{or_cases}
+use Rattle.basic_toml_tokens.specs.Text.{Text}
+use Rattle.basic_toml_grammar.specs.Holes.{Fits, fits, Hole, HoleInKeys}
+use Rattle.basic_toml_grammar.specs.Reader.{char_at, end_of}
+use Rattle.basic_toml_explain.specs.Stop.{StopsInside}
+use Rattle.basic_toml_explain.specs.declared.stop.Stop.{Stop}
+use Rattle.basic_toml_explain.specs.declared.stop.Why.{Why}
+use Rattle.basic_toml_explain.specs.declared.stop.Why.TheVariants.{Memory, Deep}
+use Rattle.basic_toml_explain.specs.StopHoles.{StopsFor}
+use Rattle.basic_toml_explain.specs.declared.stop.Why.TheVariants as why
+use Rattle.basic_toml_read.specs.StopsReached.{Holes, IfDeep, InHole, AtDeep, LeadsTo, StopsAtKey}
+use Rattle.basic_toml_read.specs.StopsAt.{Misses}
+use Rattle.basic_toml_grammar.proofs.Nesting.WithinTheLimit.{no_such}
+
+abbrev pub Answered : {A : Type 0} → List ℕ → (Result A Stop → Type 0) → (ℕ → Type 0) → Holes → Result A Stop → Type 0
+Answered bytes Reads IsDeep holes result = record {
+  read : Reads result;
+  inside : IfErr result (λ stop. StopsInside bytes stop);
+  deep : IfDeep IsDeep result;
+  hole : InHole holes bytes result;
+}
+
+-- what `?` answers at a stop
+pub is_err : {A : Type 0} (result : Result A Stop) (stop : Stop) → IsErrAnd result (λ s. s ≡ stop) → result ≡ Err stop
+is_err (Ok x) stop e = absurd e
+is_err (Err s) stop e = ap (λ s. Err s) e
+
+-- the same is too deep in both
+pub record SameDeep (Inner Outer : ℕ → Type 0) : Type 0 where
+  pub leads : (p : ℕ) → Inner p → Outer p
+  pub backs : (p : ℕ) → Outer p → Inner p
+
+pub same_deep : {Deep : ℕ → Type 0} → SameDeep Deep Deep
+same_deep = record { leads = λ p d. d; backs = λ p d. d }
+
+pub then_deep : {First Second Third : ℕ → Type 0} → SameDeep First Second → SameDeep Second Third
+    → SameDeep First Third
+then_deep f g = record { leads = λ p d. g.leads p (f.leads p d); backs = λ p d. f.backs p (g.backs p d) }
+
+-- a stop of the grammar
+abbrev pub IsOther : Why → Type 0
+IsOther Memory = ⊥
+IsOther Deep = ⊥
+IsOther _ = Unit {0}
+
+pub is_missed : {A : Type 0} (w : Why) (o : Option A) (P : A → Type 0) → IsOther w → Misses w o P → o ≡ None
+is_missed Memory o P other m = absurd other
+is_missed Deep o P other m = absurd other
+is_missed _ o P other m = m
+
+-- a stop in the one is a stop in the other
+pub at_deep : {Inner Outer : ℕ → Type 0} (w : Why) (at : ℕ) → ((p : ℕ) → Inner p → Outer p)
+    → (IsOther w → (p : ℕ) → Outer p → Inner p) → AtDeep Inner w at → AtDeep Outer w at
+at_deep Memory at f g d = tt
+at_deep Deep at f g d = f at d
+at_deep _ at f g d = λ p e. d p (g tt p e)
+
+pub at_none : {Outer : ℕ → Type 0} (w : Why) (at : ℕ) → (w ≡ Deep → ⊥) → (IsOther w → (p : ℕ) → Outer p → ⊥)
+    → AtDeep Outer w at
+at_none Memory at f g = tt
+at_none Deep at f g = absurd (f refl)
+at_none _ at f g = g tt
+
+-- holes
+pub stays_in : {holes : Holes} → LeadsTo holes holes
+stays_in = record { on = λ h at d. d; same = λ at d. refl }
+
+pub then_in : {first second third : Holes} → LeadsTo first second → LeadsTo second third → LeadsTo first third
+then_in f g = record {
+  on = λ h at d. g.on h at (f.on h at d);
+  same = λ at d. g.same at (f.on Hole.value at d) ∙ f.same at d;
+}
+
+-- at a text that is the same
+pub moved_in : {text other : Text} (holes : Text → Holes) → text ≡ other → LeadsTo (holes text) (holes other)
+moved_in {text = text} holes e = subst (λ (t : Text). LeadsTo (holes text) (holes t)) e stays_in
+
+-- a stop further on
+pub stops_on : {inner outer : Holes} → LeadsTo inner outer → (w : Why) (at : Text)
+    → StopsFor inner.HoleIn inner.behind w at → StopsFor outer.HoleIn outer.behind w at
+stops_on l why.Memory at s = tt
+stops_on l why.Deep at s = tt
+stops_on l why.Key at s = (l.on Hole.key at s.0, s.1)
+stops_on l why.Equals at s = record { hole = l.on Hole.after_keys at s.hole; missing = s.missing }
+stops_on l why.Bracket at s = record {
+  wanted = s.wanted;
+  takes = s.takes;
+  misses = record { hole = l.on s.wanted at s.misses.hole; missing = s.misses.missing };
+}
+stops_on l why.Comma at s = record { hole = l.on Hole.after_field at s.hole; missing = s.missing }
+stops_on l why.Newline at s = (l.on Hole.after_line at s.0, s.1)
+stops_on l why.Value at s = (l.on Hole.value at s.0, s.1)
+stops_on l (why.Word end) at s = record {
+  hole = l.on Hole.value at s.hole;
+  behind_it = l.same at s.hole ∙ s.behind_it;
+  none = s.none;
+  some = s.some;
+}
+
+-- a stop in keys
+pub key_stops_on : (text : Text) (outer : Holes)
+    → ((at : Text) → HoleInKeys text Hole.key at → outer.HoleIn Hole.key at) → (w : Why) (at : Text)
+    → StopsAtKey text w at → StopsFor outer.HoleIn outer.behind w at
+key_stops_on text outer f why.Memory at s = tt
+key_stops_on text outer f why.Deep at s = tt
+key_stops_on text outer f why.Key at s = (f at s.0, s.1)
+key_stops_on text outer f _ at s = absurd s
+
+-- a line that goes on
+pub newline_stop : (holes : Holes) (w : Why) (at : Text) → w ≡ why.Newline → holes.HoleIn Hole.after_line at
+    → end_of at ≡ None → StopsFor holes.HoleIn holes.behind w at
+newline_stop holes w at e d none = rw e (d, none)
+
+-- where two signs are missing, nothing fits in a hole that takes no other
+pub nothing_fits : (h : Hole) (a b : ℕ) (text : Text) → char_at a text ≡ None → char_at b text ≡ None
+    → ((c : ℕ) → fits h c ≡ (c == a || c == b)) → Fits h text → ⊥
+nothing_fits h a b text none none' fits_is f =
+    elim (or_cases (f.char == a) (f.char == b) (sym (fits_is f.char) ∙ f.fit)) [
+      | inl e ↦ no_such none (rw (eqb-true f.char a e) at f.starts)
+      | inr e ↦ no_such none' (rw (eqb-true f.char b e) at f.starts)
+    ]
