@@ -1,15 +1,13 @@
 -- The clash that is answered for a row says what was met, or what stops its value.
-use Rattle.std.proofs.Common.{◌≡◌, ◌<◌, ◌≤◌, get_or, ℕ, suc, zero, ◌+◌, ◌-◌, List, [], ◌∷◌, ◌++◌, refl, sym}
-use Rattle.std.proofs.Common.{ap, ◌∙◌, Some, None, length}
-use Rattle.std.proofs.Common.{take, map, arith, rules, Result, Ok, Err, IfOk}
+use Rattle.std.proofs.Common.{◌≡◌, ℕ, ◌+◌, ◌-◌, List, [], ◌∷◌, ◌++◌, refl, sym, ap, ◌∙◌, Some, None, length, take, map}
+use Rattle.std.proofs.Common.{arith, Result, Ok, Err, IfOk}
 use Rattle.std.specs.List.{slice_get}
+use Rattle.std.proofs.lemmas.List.{length-append, length-map}
 use Rattle.basic_toml_grammar.specs.Sections.{Key, KeyTexts, texts}
 use Rattle.basic_toml_grammar.specs.Trie.{Trie}
 use Rattle.basic_toml_grammar.specs.Stops.{Stop, at_row, Outcome, stops}
-use Rattle.basic_toml_read.specs.declared.section.Raw.{the_lemmas}
 use Rattle.basic_toml_read.specs.declared.section.Key as keys
-use Rattle.basic_toml_read.specs.declared.section.Row.{Row, out-Row}
-use Rattle.basic_toml_read.specs.SectionView.{key_of, header_texts, lined_of}
+use Rattle.basic_toml_read.specs.SectionView.{key_of, header_texts}
 use Rattle.basic_toml_grow.specs.declared.clash.Clash.{Clash}
 use Rattle.basic_toml_grow.specs.declared.clash.Clash.TheVariants as clashes
 use Rattle.basic_toml_grow.specs.declared.met.Met.TheVariants as mets
@@ -34,21 +32,6 @@ pub if_stop : {E : Type 0} (result : Result Clash E) (x : Stop) (P : Clash → T
 if_stop (Ok clash) x P f is = f clash is
 if_stop (Err error) x P f is = tt
 
-pub row_offset : (r : Row) → (out-Row r).offset ≡ (lined_of r).key.offset
-row_offset r = search (rules, the_lemmas)
-
--- a key at a number, or none
-pub key_there : (ks : List keys.Key) (n : ℕ) (k : keys.Key) → n < length ks → k ≡ get_or ks n k → slice_get ks n
-    ≡ Some k
-key_there [] n k within at = absurd (omega arith)
-key_there (s ∷ ks) zero k within at = ap Some (sym at)
-key_there (s ∷ ks) (suc n) k within at = key_there ks n k (omega arith) at
-
-pub none_there : (ks : List keys.Key) (n : ℕ) → length ks ≤ n → slice_get ks n ≡ None
-none_there [] n past = refl
-none_there (s ∷ ks) zero past = absurd (omega arith)
-none_there (s ∷ ks) (suc n) past = none_there ks n (omega arith)
-
 -- the key met, which is the last one or not
 record KeyIs (parents : List keys.Key) (k : Key) (front : List Key) (there : Key) : Type 0 where
   before : texts front ≡ header_texts (take (length front) parents)
@@ -69,19 +52,6 @@ key_is (r ∷ rs) k (f ∷ front) there rest parts =
       last = h.last;
     }
 
-count_front : (parents : List keys.Key) (k : Key) (front : List Key) (there : Key) (rest : List Key)
-    → map key_of parents ++ k ∷ [] ≡ front ++ there ∷ rest → length parents + 1 ≡ length front + suc (length rest)
-count_front parents k front there rest parts =
-    sym (lines parents) ∙ ap length parts ∙ after front
-  where
-    lines : (parents : List keys.Key) → length (map key_of parents ++ k ∷ []) ≡ length parents + 1
-    lines [] = refl
-    lines (r ∷ rs) = let h = lines rs in omega arith
-
-    after : (front : List Key) → length (front ++ there ∷ rest) ≡ length front + suc (length rest)
-    after [] = omega arith
-    after (f ∷ front) = let h = after front in omega arith
-
 module _ (parents : List keys.Key) (offset : ℕ) (last : List ℕ) (left number : ℕ)
     (is_number : number ≡ length parents + 1 - left)
     (path : KeyTexts) (is_path : path ≡ header_texts (take number parents)) (clash : Clash) where
@@ -90,9 +60,15 @@ module _ (parents : List keys.Key) (offset : ℕ) (last : List ℕ) (left number
 
   at_front : (o : Outcome Trie) (m : MetKey o) → number ≡ length m.front
   at_front o m =
-      let count = count_front parents (key_at offset last) m.front m.there m.rest m.parts in
-      let c = m.count in
-      omega arith
+      omega (
+        arith,
+        is_number,
+        m.count,
+        ap length m.parts,
+        length-append m.front (m.there ∷ m.rest),
+        length-append (map key_of parents) (key_at offset last ∷ []),
+        length-map parents key_of,
+      )
 
   -- the stop at a key, whose place is known
   told_at : (o : Outcome Trie) (m : MetKey o) (k : Key) → m.there ≡ k

@@ -10,8 +10,8 @@ use Rattle.basic_toml_grammar.specs.NamedClash.{dotted_fault, dotted_faults, dot
 use Rattle.basic_toml_grow.specs.Crossed.{no_ends, and_end, crossed_after, crossed_between, crossed_of, crossed_among}
 use Rattle.basic_toml_grow.specs.Crossed.{crossed_within, crossed_in, first_crossed}
 use Rattle.basic_toml_grow.specs.KeyTree.{Ends, value_on}
-use Rattle.basic_toml_grow.proofs.RowsGoOn.{faults_between, value_faults, Reached, all_followed, row_followed}
-use Rattle.basic_toml_grow.proofs.RowsGoOn.{row_goes_on, reached_first, no_faults, own_is_fault, value_is_fault}
+use Rattle.basic_toml_grow.proofs.RowsGoOn.{faults_between, value_faults, Reached, row_followed, row_goes_on}
+use Rattle.basic_toml_grow.proofs.RowsGoOn.{no_faults, own_is_fault, value_is_fault}
 use Rattle.basic_toml_grow.proofs.ValuesOnTheWay.{row_ends}
 
 -- one of these faults, or none of them
@@ -27,7 +27,7 @@ tells_append None (Some at) fs gs x y = Contains-append_right fs gs (dotted_faul
 -- rows among themselves
 tells_after : (all left : Rows) (ends : Ends) → Reached all left ends
     → Tells (crossed_after ends left) (faults_between all)
-tells_after all no_rows ends reached = all_followed all ends reached
+tells_after all no_rows ends reached = reached.none (λ p s there. refl) refl
 tells_after all (row keys at value left) ends reached =
     go (value_on ends (texts keys)) refl (tells_after all left (and_end ends (texts keys) at))
   where
@@ -41,7 +41,8 @@ tells_after all (row keys at value left) ends reached =
         (row_ends ends (texts keys) at on))
 
 pub tells_between : (rows : Rows) → Tells (crossed_between rows) (faults_between rows)
-tells_between rows = tells_after rows rows no_ends (reached_first rows)
+tells_between rows = tells_after rows rows no_ends
+    (record { told = λ p s there. absurd (cc); own = λ f there. there; none = λ clear none. none })
 
 tells_rows : (a b : Option ℕ) (rows : Rows) → Tells a (faults_between rows) → Tells b (value_faults rows)
     → Tells (option_or a b) (dotted_faults rows)
@@ -79,12 +80,9 @@ tells_sections (s ∷ sections) =
 
 -- where there is no fault between rows, none is crossed
 pub none_between : (rows : Rows) → faults_between rows ≡ [] → crossed_between rows ≡ None
-none_between rows none = go (crossed_between rows) refl (tells_between rows)
+none_between rows none =
+    go (crossed_between rows) (subst (λ (fs : List Fault). Tells (crossed_between rows) fs) none (tells_between rows))
   where
-    nowhere : (f : Fault) → Contains [] f → ⊥
-    nowhere f there = let h : there.0 < 0 = there.1 in absurd (omega arith)
-
-    go : (o : Option ℕ) → crossed_between rows ≡ o → Tells o (faults_between rows) → o ≡ None
-    go None e tells = refl
-    go (Some at) e tells = absurd (nowhere (dotted_fault at)
-        (subst (λ (fs : List Fault). Contains fs (dotted_fault at)) none tells))
+    go : (o : Option ℕ) → Tells o [] → o ≡ None
+    go None tells = refl
+    go (Some at) there = let within : there.0 < 0 = there.1 in absurd (omega arith)

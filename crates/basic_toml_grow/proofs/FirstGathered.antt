@@ -1,6 +1,6 @@
 -- The first of what the parts of a list have.
-use Rattle.std.proofs.Common.{◌≡◌, ℕ, suc, zero, ◌+◌, ◌<◌, ◌≤◌, List, [], ◌∷◌, ◌++◌, sym, ap, ◌∙◌, take}
-use Rattle.std.proofs.Common.{length, get_or, Option, Some, None, arith, Err}
+use Rattle.std.proofs.Common.{◌≡◌, ℕ, suc, zero, ◌+◌, ◌<◌, ◌≤◌, List, [], ◌∷◌, ◌++◌, take}
+use Rattle.std.proofs.Common.{length, get_or, Option, Some, None, refl, arith, Err}
 use Rattle.std.specs.Option.{option_or}
 use Rattle.std.proofs.lemmas.List.{take_more, take_all}
 use Rattle.basic_toml_grow.specs.declared.crossed.Crossed.{Crossed}
@@ -16,27 +16,23 @@ module _ {A : Type 0} (f : A → Option ℕ) where
   pub found_at : (xs : List A) (i : ℕ) (x : A) (at : ℕ) → i < length xs → x ≡ get_or xs i x
       → first_in (take i xs) ≡ None → f x ≡ Some at → first_in xs ≡ Some at
   found_at [] i x at within read none there = absurd (omega (arith, within))
-  found_at (y ∷ ys) zero x at within read none there =
-      ap (λ o. option_or o (first_in ys)) (ap f (sym read) ∙ there)
+  found_at (y ∷ ys) zero x at within read none there = rw (← read, there) refl
   found_at (y ∷ ys) (suc i) x at within read none there =
-      ap (λ o. option_or o (first_in ys)) (none_left (f y) (first_in (take i ys)) none)
-      ∙ found_at ys i x at (omega (arith, within)) read (none_right (f y) (first_in (take i ys)) none) there
+      rw (none_left (f y) (first_in (take i ys)) none)
+      (found_at ys i x at (omega (arith, within)) read (none_right (f y) (first_in (take i ys)) none) there)
 
   none_behind : (xs : List A) (x : A) → first_in xs ≡ None → f x ≡ None → first_in (xs ++ x ∷ []) ≡ None
-  none_behind [] x none here = ap (λ o. option_or o None) here
+  none_behind [] x none here = rw here refl
   none_behind (y ∷ ys) x none here =
-      ap (λ o. option_or o (first_in (ys ++ x ∷ []))) (none_left (f y) (first_in ys) none)
-      ∙ none_behind ys x (none_right (f y) (first_in ys) none) here
+      rw (none_left (f y) (first_in ys) none) (none_behind ys x (none_right (f y) (first_in ys) none) here)
 
   pub none_more : (xs : List A) (i : ℕ) (x : A) → i < length xs → x ≡ get_or xs i x → first_in (take i xs) ≡ None
       → f x ≡ None → first_in (take (i + 1) xs) ≡ None
   none_more xs i x within read before here =
-      let more : take (i + 1) xs ≡ take i xs ++ x ∷ [] =
-      take_more xs i x within ∙ ap (λ p. take i xs ++ p ∷ []) (sym read) in
-      ap first_in more ∙ none_behind (take i xs) x before here
+      rw (take_more xs i x within, ← read) (none_behind (take i xs) x before here)
 
   pub none_in_all : (xs : List A) (i : ℕ) → length xs ≤ i → first_in (take i xs) ≡ None → first_in xs ≡ None
-  none_in_all xs i passed none = ap (λ l. first_in l) (sym (take_all i xs passed)) ∙ none
+  none_in_all xs i passed none = rw (take_all i xs passed) at none
 
 -- the first of some is the first of all
 pub looks_more : (some all : Option ℕ) (e : Crossed) → ((at : ℕ) → some ≡ Some at → all ≡ Some at)

@@ -1,80 +1,47 @@
 -- The way of a header through tables and what stands in them, as contracts say it.
-use Rattle.std.proofs.Common.{string_bytes, ◌≡◌, ◌≤◌, ℕ, ◌+◌, Bool, true, false, List, ◌∷◌, map, Option, Some}
-use Rattle.std.proofs.Common.{refl, ap, sym, ◌∙◌, rules, option_map, Vec, Box, Global, Result, Ok, Err}
-use Rattle.std.proofs.Common.{IsErrAnd, subst}
+use Rattle.std.proofs.Common.{◌≡◌, ◌≤◌, ℕ, ◌+◌, Bool, true, false, List, ◌∷◌, Some, refl, ap, sym, ◌∙◌, rules}
+use Rattle.std.proofs.Common.{option_map, Vec, Box, Global, subst}
 use Rattle.std.specs.List.{slice_get}
-use Rattle.basic_toml_value.specs.Data.{Data, items_of}
+use Rattle.basic_toml_value.specs.Data.{Data}
 use Rattle.basic_toml_grammar.specs.Sections.{KeyTexts, Rows}
-use Rattle.basic_toml_grammar.specs.Mentions.{finished}
 use Rattle.basic_toml_grammar.specs.Trie.{Trie}
 use Rattle.basic_toml_grammar.specs.Steps.{key}
-use Rattle.basic_toml_plain.specs.Plain.{plain_array, plain_table}
 use Rattle.basic_toml_plain.specs.Tries.{tree_data, leaf, by_keys}
-use Rattle.basic_toml_grow.specs.declared.clash.Clash.{Clash}
 use Rattle.basic_toml_grow.specs.declared.item.Item.{the_lemmas, Tables}
 use Rattle.basic_toml_grow.specs.declared.item.Item as items
 use Rattle.basic_toml_grow.specs.declared.item.Item.TheOpen.{Item-F, Table-F}
-use Rattle.basic_toml_grow.specs.declared.item.Item.TheViews.{roll-Item, out-Item, roll-Child, roll-Table}
+use Rattle.basic_toml_grow.specs.declared.item.Item.TheViews.{out-Item, roll-Child, roll-Table}
 use Rattle.basic_toml_grow.specs.declared.item.Child.{Child, out-Child}
 use Rattle.basic_toml_grow.specs.declared.item.Table.{Table, out-Table}
 use Rattle.std.proofs.lemmas.Bool.{false≢true}
-use Rattle.basic_toml_grow.specs.Item.{item_trie, child_trie, table_trie, trie_before}
-use Rattle.basic_toml_grow.specs.Item.{holds_section, is_section}
+use Rattle.basic_toml_grow.specs.Item.{item_trie, child_trie, table_trie, trie_before, holds_section, is_section}
 use Rattle.basic_toml_value.specs.Growth.{FindsOrAdds, with_value, values_of}
 use Rattle.basic_toml_value.specs.declared.pairs.growth.Place.{Place}
-use Rattle.basic_toml_grow.specs.Headers.{EntersItem, entered_at, steps_at, obstacle_at}
+use Rattle.basic_toml_grow.specs.Headers.{entered_at, steps_at, obstacle_at}
 use Rattle.basic_toml_grow.specs.Ways.{way_at}
 use Rattle.basic_toml_value.specs.Nesting.{nesting_limit}
 use Rattle.basic_toml_grow.specs.Simple.{with_entries}
 use Rattle.basic_toml_grow.proofs.KeysInATrie.{tries_of, stood_there, change_made, with_mapped}
 use Rattle.basic_toml_grow.proofs.ItemTries.{child_item_trie, table_entries_trie}
 use Rattle.basic_toml_grow.proofs.ItemsStand.{shape}
-use Rattle.basic_toml_grow.proofs.HeadersInATrie.{made, is_in, is_kept_out, Course, course_of, same_course}
+use Rattle.basic_toml_grow.proofs.HeadersInATrie.{made, Course, course_of, same_course}
 use Rattle.basic_toml_grow.proofs.HeadersInATrie.{course, course_at, course_through}
 use Rattle.basic_toml_grow.proofs.LatestInATrie.{mapped_twice}
 use Rattle.basic_toml_grow.proofs.ObstaclesPassOn.{behind_low}
 use Rattle.basic_toml_grow.proofs.TablesOpened.{numbered_fields}
 
--- what the exit of a `?` answers
-pub failed : {A : Type 0} (P : Result A Clash → Type 0) (result : Result A Clash) (clash : Clash)
-    → IsErrAnd result (λ f. f ≡ clash) → P (Err clash) → P result
-failed P (Ok x) clash h p = absurd h
-failed P (Err f) clash h p = subst (λ (g : Clash). P (Err g)) (sym h) p
-
--- what is entered further on is entered here
-pub entered_on : {e : Option Trie} {l m : ℕ} {after : Trie} (w : Option Trie) (t : Trie) (rows : Rows)
-    (f : Trie → Trie) (r : Result (Unit {0}) Clash) → e ≡ option_map f w → l ≡ m → after ≡ f t
-    → EntersItem w rows m t r → EntersItem e rows l after r
-entered_on {e} {l} {m} {after} w t rows f (Ok x) goes level made_of is =
-    is_in w e rows m l t after (goes ∙ ap (option_map f) is.gives ∙ ap Some (sym made_of)) level is
-entered_on {e} {l} {m} w t rows f (Err clash) goes level made_of out =
-    is_kept_out clash w e rows m l (λ none. goes ∙ ap (option_map f) none) level out
-
 -- what is none of these is a value, which bars a header
 pub other_is_leaf : (i : items.Item) → is_section i ≡ false → ((t : Box Table Global) → i ≡ items.Table t → ⊥)
     → ((b : Box (Vec Table Global × Table) Global) → i ≡ Tables b → ⊥)
     → (d : Data) × (item_trie i ≡ leaf d)
-other_is_leaf i no_section no_table no_tables = go (out-Item i) refl
+other_is_leaf i no_section no_table no_tables = (tree_data (item_trie i), go (out-Item i) refl)
   where
-    is_leaf : {x : Item-F items.Item Child Table} (d : Data) → item_trie (roll-Item x) ≡ leaf d → out-Item i ≡ x
-        → (d : Data) × (item_trie i ≡ leaf d)
-    is_leaf {x} d made e = (d, ap item_trie (shape i x e) ∙ made)
-
-    go : (x : Item-F items.Item Child Table) → out-Item i ≡ x → (d : Data) × (item_trie i ≡ leaf d)
-    go (Item-F.Integer z) e = is_leaf (Data.integer z) (search (rules, the_lemmas)) e
-    go (Item-F.Float text) e = is_leaf (Data.float text) (search (rules, the_lemmas)) e
-    go Item-F.True e = is_leaf (Data.boolean true) (search (rules, the_lemmas)) e
-    go Item-F.False e = is_leaf (Data.boolean false) (search (rules, the_lemmas)) e
-    go (Item-F.String text) e = is_leaf (Data.string text.now) (search (rules, the_lemmas)) e
-    go (Item-F.Escaped text) e = is_leaf (Data.string (string_bytes text)) (search (rules, the_lemmas)) e
-    go (Item-F.Array children) e =
-        is_leaf (Data.array (items_of (map tree_data (map child_trie children.items)))) (search (rules, the_lemmas)) e
-    go (Item-F.Plain es) e = is_leaf (finished (plain_array es)) (search (rules, the_lemmas)) e
-    go (Item-F.Rows rs) e = is_leaf (finished (plain_table rs)) (search (rules, the_lemmas)) e
-    go (Item-F.Inline t) e = is_leaf (tree_data (table_trie t.value)) (search (rules, the_lemmas)) e
+    go : (x : Item-F items.Item Child Table) → out-Item i ≡ x → item_trie i ≡ leaf (tree_data (item_trie i))
     go (Item-F.Table t) e = absurd (no_table t (shape i (Item-F.Table t) e ∙ search (rules, the_lemmas)))
     go (Item-F.Tables b) e = absurd (no_tables b (shape i (Item-F.Tables b) e ∙ search (rules, the_lemmas)))
-    go x e = absurd (false≢true (sym no_section ∙ ap holds_section e))
+    go (Item-F.Section rows) e = absurd (false≢true (sym no_section ∙ ap holds_section e))
+    go (Item-F.Sections b) e = absurd (false≢true (sym no_section ∙ ap holds_section e))
+    go x e = subst (λ j. item_trie j ≡ leaf (tree_data (item_trie j))) (sym (shape i x e)) (search (rules, the_lemmas))
 
 -- a child with another item
 abbrev pub holding : Child → items.Item → Child

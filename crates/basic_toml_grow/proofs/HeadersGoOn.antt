@@ -1,9 +1,12 @@
 -- What a section does to a table, to what stands at a key and to an item, by the keys of its header that are left: what
 -- is entered or is met first, what its rows bring, and what its header marks. What it does to one of these it does to
 -- what holds that one.
+use Rattle.std.specs.Box as boxes
 use Rattle.std.specs.List.{slice_get}
 use Rattle.std.proofs.Common.{◌≡◌, ◌≤◌, ◌<◌, ℕ, suc, ◌+◌, Bool, true, false, List, [], ◌∷◌, length, map, Some, refl, ap}
-use Rattle.std.proofs.Common.{ap₂, sym, ◌∙◌, subst, arith, inr, Vec, Box, Global, Result, Err, IsErrAnd}
+use Rattle.std.proofs.Common.{ap₂, sym, ◌∙◌, arith, inr, Vec, Box, Global, Result, Err, IsErrAnd}
+use Rattle.std.proofs.lemmas.Iterator.Adapters.{option_map_id}
+use Rattle.std.proofs.lemmas.Result.{IfOk-weaker, err_from_is_err_and}
 use Rattle.basic_toml_value.specs.Nesting.{nesting_limit}
 use Rattle.basic_toml_value.specs.Growth.{FindsOrAdds, with_value, values_of}
 use Rattle.basic_toml_value.specs.declared.pairs.growth.Place.{Place}
@@ -23,19 +26,17 @@ use Rattle.basic_toml_grow.specs.declared.clash.Clash.TheVariants.{Deep, Header}
 use Rattle.basic_toml_grow.specs.Clash.{NamesObstacle, in_the_way}
 use Rattle.basic_toml_grow.specs.Item.{child_trie, item_trie, table_trie, trie_before, is_section}
 use Rattle.basic_toml_grow.specs.Simple.{with_entries}
-use Rattle.basic_toml_grow.specs.Headers.{EntersItem, IsKeptOut, IsNew, entered_at, highest, is_last}
+use Rattle.basic_toml_grow.specs.Headers.{IsKeptOut, IsNew, entered_at, highest, is_last}
 use Rattle.basic_toml_grow.specs.Obstacles.{element_obstacle}
-use Rattle.basic_toml_grow.specs.Origins.{child_origins, item_origins, origins_before}
-use Rattle.basic_toml_grow.specs.Origins.{rows_origins, table_within}
+use Rattle.basic_toml_grow.specs.Origins.{child_origins, item_origins, origins_before, rows_origins, table_within}
 use Rattle.basic_toml_grow.specs.Ways.{way, way_by, way_at}
 use Rattle.basic_toml_grow.specs.Takes.{TakesHeader, TakesHeaderAtKey, TakesHeaderInItem}
-use Rattle.basic_toml_grow.proofs.RowsEntered.{ok_on}
 use Rattle.basic_toml_grow.proofs.HeadersInATrie.{array_of, Course, course, course_by, course_barred, course_latest}
-use Rattle.basic_toml_grow.proofs.HeadersInATrie.{deep_met, in_latest, in_table}
+use Rattle.basic_toml_grow.proofs.HeadersInATrie.{deep_met, entered_on, in_latest, in_table}
 use Rattle.basic_toml_grow.proofs.HeadersNamed.{texts_count}
 use Rattle.basic_toml_grow.proofs.ItemTries.{child_item_trie, table_entries_trie}
 use Rattle.basic_toml_grow.proofs.TablesOpened.{table_item_trie, tables_trie}
-use Rattle.basic_toml_grow.proofs.HeadersEntered.{entered_on, failed, holding, holding_trie, other_is_leaf, out_holding}
+use Rattle.basic_toml_grow.proofs.HeadersEntered.{holding, holding_trie, other_is_leaf, out_holding}
 use Rattle.basic_toml_grow.proofs.HeadersEntered.{passed_course, passed_table, passed_trie, passed_with, passes}
 use Rattle.basic_toml_grow.proofs.HeadersLead.{Leads, lead, no_new_section}
 use Rattle.basic_toml_grow.proofs.Origins.OriginsSeen.{child_seen, table_item_seen, table_origins}
@@ -45,15 +46,15 @@ use Rattle.basic_toml_grow.proofs.Origins.HeadersMark.{passed_marks}
 
 -- A table is passed by a key.
 pub from_key : {gives : Child → Type 0} {a : Bool} {rows : Rows} {k : List ℕ} {level n : ℕ}
-    {new : List (List ℕ × Child)} {p : Place} {there now : Child} {r : Result (Unit {0}) Clash} (t : Table)
+    {new : List (List ℕ × Child)} {p : Place} {t : Table} {there now : Child} {r : Result (Unit {0}) Clash}
     (key : code.Key) (rest : List code.Key) → k ≡ key_text_bytes key.text → level ≤ nesting_limit
     → FindsOrAdds gives k (out-Table t).entries new p
     → slice_get (values_of (out-Table (passed_table t new n)).entries) p.position ≡ Some there
     → TakesHeaderAtKey a rows (header_texts rest) level n p.is_new there now r
     → TakesHeader a rows (header_texts (key ∷ rest)) level n t (with_entries (passed_table t new n)
     (with_value (out-Table (passed_table t new n)).entries p.position now)) r
-from_key {a = a} {rows = rows} {k = k} {level = level} {n = n} {new = new} {p = p} {there = there} {now = now} {r = r} t
-    key rest text within entered stands from =
+from_key {a = a} {rows = rows} {k = k} {level = level} {n = n} {new = new} {p = p} {t = t} {there = there} {now = now}
+    {r = r} key rest text within entered stands from =
     let keys = header_texts rest in
     let after = with_entries (passed_table t new n)
     (with_value (out-Table (passed_table t new n)).entries p.position now) in
@@ -61,41 +62,48 @@ from_key {a = a} {rows = rows} {k = k} {level = level} {n = n} {new = new} {p = 
     let met = passed_course pass a rows keys level within in
     let before = trie_before p.is_new (child_trie there) in
     let way_is = ap (λ (c : Course). c.way) met in
-    subst (λ (ks : KeyTexts). TakesHeader a rows ks level n t after r) (ap (λ k. k ∷ keys) text) (record {
+    rw (← text) (record {
       entered = entered_on (entered_at a rows keys before) (child_trie now) rows (passed_with pass) r
           (ap (λ (c : Course). c.entered) met) (ap (λ (c : Course). level + c.steps) met) (passed_trie pass)
           from.entered;
       named = rw (ap (λ (c : Course). c.met) met) from.named;
-      origins = rw way_is (ok_on _ _ r (λ x grows. passed_grows pass _ (rows_origins n rows) grows) from.origins);
-      marks = rw way_is (ok_on _ _ r (λ x marks. passed_marks pass _ marks) from.marks);
+      origins = rw way_is (IfOk-weaker r _ _ (λ x grows. passed_grows pass _ (rows_origins n rows) grows) from.origins);
+      marks = rw way_is (IfOk-weaker r _ _ (λ x marks. passed_marks pass _ marks) from.marks);
     })
 
 -- The item is a table, or an array of tables, whose latest is gone on from.
-module _ (a : Bool) (rows : Rows) (keys : KeyTexts) (level n : ℕ) (r : Result (Unit {0}) Clash) where
-  pub from_table : (old after : Box Table Global) → TakesHeader a rows keys (level + 1) n old.value after.value r
-      → TakesHeaderInItem a rows keys level n (items.Table old) (items.Table after) r
-  from_table old after from =
+module _ {a : Bool} {rows : Rows} {keys : KeyTexts} {level n : ℕ} {r : Result (Unit {0}) Clash} where
+  pub from_table : {held now : Table} (old : Box Table Global) → held ≡ old.value
+      → TakesHeader a rows keys (level + 1) n held now r
+      → TakesHeaderInItem a rows keys level n (items.Table old) (items.Table (boxes.with_value old now)) r
+  from_table {held} {now} old same takes =
+      let from = rw same at takes in
+      let after = boxes.with_value old now in
       let t = table_entries_trie old.value in
       let met : course_by a rows keys (level + 1) (item_trie (items.Table old))
       ≡ in_table (course a rows keys (level + 1) (table_trie old.value)) =
       ap (course_by a rows keys (level + 1)) (table_item_trie old ∙ t)
       ∙ ap (λ t. in_table (course a rows keys (level + 1) t)) (sym t) in
       let way_is = ap (λ (c : Course). c.way) met in record {
-        entered = rw (ap (λ (c : Course). c.entered) met, ap (λ (c : Course). c.steps) met, table_item_trie after)
-            (subst (λ m. EntersItem (walk a rows keys (table_trie old.value)) rows m (table_trie after.value) r)
-            (omega arith) from.entered);
+        entered = entered_on (walk a rows keys (table_trie old.value)) (table_trie now) rows (λ u. u) r
+            (ap (λ (c : Course). c.entered) met ∙ sym (option_map_id _))
+            (ap (λ (c : Course). level + c.steps) met ∙ omega arith) (table_item_trie after) from.entered;
         named = rw (ap (λ (c : Course). c.met) met) from.named;
-        origins = rw way_is (ok_on _ _ r (λ x grows. λ at s. rw (table_item_seen old at s, table_item_seen after at s)
+        origins = rw way_is (IfOk-weaker r _ _
+            (λ x grows. λ at s. rw (table_item_seen old at s, table_item_seen after at s)
             (entry_grows (way a keys (table_trie old.value)) (rows_origins n rows) (table_origins old.value)
-            (table_origins after.value) _ _ (λ s p not. grows (s ∷ p) not))) from.origins);
-        marks = rw way_is (ok_on _ _ r (λ x marks. λ at s. rw (table_item_seen after at s)
-            (table_marked n _ (table_within after.value) at s marks)) from.marks);
+            (table_origins now) _ _ (λ s p not. grows (s ∷ p) not))) from.origins);
+        marks = rw way_is (IfOk-weaker r _ _ (λ x marks. λ at s. rw (table_item_seen after at s)
+            (table_marked n _ (table_within now) at s marks)) from.marks);
       }
 
-  pub from_latest : (old after : Box (Vec Table Global × Table) Global) → after.value.0 ≡ old.value.0
-      → TakesHeader a rows keys (level + 2) n old.value.1 after.value.1 r
-      → TakesHeaderInItem a rows keys level n (items.Tables old) (items.Tables after) r
-  from_latest old after same from =
+  pub from_latest : {held : Vec Table Global × Table} {now : Table} (old : Box (Vec Table Global × Table) Global)
+      → held ≡ old.value → TakesHeader a rows keys (level + 2) n held.1 now r
+      → TakesHeaderInItem a rows keys level n (items.Tables old) (items.Tables (boxes.with_value old (held.0, now))) r
+  from_latest {held} {now} old is takes =
+      let from = rw is at takes in
+      let after = boxes.with_value old (held.0, now) in
+      let same = ap (λ (ts : Vec Table Global × Table). ts.0) is in
       let before = map table_trie old.value.0.items in
       let t = table_trie old.value.1 in
       let met : course_by a rows keys (level + 1) (item_trie (items.Tables old))
@@ -103,20 +111,19 @@ module _ (a : Bool) (rows : Rows) (keys : KeyTexts) (level n : ℕ) (r : Result 
       ap (course_by a rows keys (level + 1)) (tables_trie old)
       ∙ course_latest a rows keys (level + 1) (level + 2) before t (omega arith) in
       let way_is = ap (λ (c : Course). c.way) met in record {
-        entered = entered_on (walk a rows keys t) (table_trie after.value.1) rows (λ u. array_of before u) r
+        entered = entered_on (walk a rows keys t) (table_trie now) rows (λ u. array_of before u) r
             (ap (λ (c : Course). c.entered) met)
             (ap (λ (c : Course). level + c.steps) met ∙ omega arith)
             (tables_trie after
-            ∙ ap (λ (ts : Vec Table Global). array_of (map table_trie ts.items) (table_trie after.value.1)) same)
-            from.entered;
+            ∙ ap (λ (ts : Vec Table Global). array_of (map table_trie ts.items) (table_trie now)) same) from.entered;
         named = rw (ap (λ (c : Course). c.met) met) from.named;
-        origins = rw way_is (ok_on _ _ r
+        origins = rw way_is (IfOk-weaker r _ _
             (λ x grows. latest_grows old after _ (rows_origins n rows) same grows) from.origins);
-        marks = rw way_is (ok_on _ _ r (λ x marks. latest_marks old after n _ same marks) from.marks);
+        marks = rw way_is (IfOk-weaker r _ _ (λ x marks. latest_marks old after n _ same marks) from.marks);
       }
 
 -- A value stands there, which bars a header.
-module _ (a : Bool) (rows : Rows) (keys : List code.Key) (level n : ℕ) (i : Item) (no_section : is_section i ≡ false)
+module _ {a : Bool} {rows : Rows} {level n : ℕ} {i : Item} (keys : List code.Key) (no_section : is_section i ≡ false)
     (no_table : (t : Box Table Global) → i ≡ items.Table t → ⊥)
     (no_tables : (b : Box (Vec Table Global × Table) Global) → i ≡ items.Tables b → ⊥) where
   pub from_value : level < nesting_limit
@@ -154,26 +161,20 @@ pub record LeadsOn (a : Bool) (rows : Rows) (keys : KeyTexts) (l : ℕ) (is_new 
   pub start : (out-Child there).start ≡ (out-Child mid).start
   pub section : (out-Child there).section ≡ (out-Child mid).section
 
-module _ (a : Bool) (rows : Rows) (keys : KeyTexts) (l : ℕ) (is_new : Bool) (mid there : Child) where
+module _ {a : Bool} {rows : Rows} {keys : KeyTexts} {l : ℕ} {is_new : Bool} {mid there : Child} where
   -- to its own, and to one that it holds then
   pub leads_same : there ≡ mid → (is_new ≡ true → IsNew (is_last a keys) (out-Child mid).item)
       → (is_new ≡ false → is_last a keys ≡ false) → LeadsOn a rows keys l is_new mid there
   leads_same same new not =
-      subst (λ (d : Child). LeadsOn a rows keys l is_new mid d) (sym same) (record {
-        leads = lead a rows keys l is_new (out-Child mid).item new not;
-        start = refl;
-        section = refl;
-      })
+      rw same (record { leads = lead is_new new not; start = refl; section = refl })
 
-  pub leads_holding : (i : Item) → there ≡ holding mid i
+  pub leads_holding : {i : Item} → there ≡ holding mid i
       → Leads a rows keys l (trie_before is_new (item_trie (out-Child mid).item))
       (λ at s. origins_before is_new (item_origins (out-Child mid).item at s)) i
       → LeadsOn a rows keys l is_new mid there
-  leads_holding i same leads =
+  leads_holding {i} same leads =
       let out = ap out-Child same ∙ out_holding mid i in record {
-        leads = subst (λ (i : Item). Leads a rows keys l (trie_before is_new (item_trie (out-Child mid).item))
-            (λ at s. origins_before is_new (item_origins (out-Child mid).item at s)) i)
-            (sym (ap (λ o. o.item) out)) leads;
+        leads = rw (ap (λ o. o.item) out) leads;
         start = ap (λ o. o.start) out;
         section = ap (λ o. o.section) out;
       }
@@ -183,17 +184,15 @@ pub new_stays : (a : Bool) (mid there : Child) (is_new : Bool)
     → (is_section (out-Child there).item ≡ false → mid ≡ there) → (is_new ≡ true → IsNew a (out-Child there).item)
     → is_new ≡ true → IsNew a (out-Child mid).item
 new_stays a mid there is_new others new is =
-    let there_new = new is in
-    subst (λ (d : Child). IsNew a (out-Child d).item)
-    (sym (others (no_new_section a (out-Child there).item there_new))) there_new
+    rw (others (no_new_section a (out-Child there).item (new is))) (new is)
 
 -- What stands at a key is gone on from by the item that it leads on to.
-pub from_item : (a : Bool) (rows : Rows) (keys : KeyTexts) (level n : ℕ) (is_new : Bool) (old mid there : Child)
-    (item : Item) (r : Result (Unit {0}) Clash) → child_trie mid ≡ child_trie old
+pub from_item : {a : Bool} {rows : Rows} {keys : KeyTexts} {level n : ℕ} {is_new : Bool} {old mid there : Child}
+    {item : Item} {r : Result (Unit {0}) Clash} → child_trie mid ≡ child_trie old
     → child_origins mid ≡ child_origins old → LeadsOn a rows keys (level + 1) is_new mid there
     → TakesHeaderInItem a rows keys level n (out-Child there).item item r
     → TakesHeaderAtKey a rows keys level n is_new old (holding there item) r
-from_item a rows keys level n is_new old mid there item r same came on from =
+from_item {a} {rows} {keys} {level} {n} {is_new} {old} {mid} {there} {item} {r} same came on from =
     let same_course = on.leads.same in
     let i = (out-Child there).item in
     let at = (out-Child there).start in
@@ -213,21 +212,22 @@ from_item a rows keys level n is_new old mid there item r same came on from =
         ap (λ (c : Course). c.steps) same_course,
       ) from.entered;
       named = rw (← before, ap (λ (c : Course). c.met) same_course) from.named;
-      origins = rw (holding_origins there item, ← before, way_is, ← was_is) (ok_on _ _ r
+      origins = rw (holding_origins there item, ← before, way_is, ← was_is) (IfOk-weaker r _ _
           (λ x grows. grows_after (way_by a keys (item_trie i)) (rows_origins n rows) was (item_origins i at s)
           (item_origins item at s) (on.leads.keeps at s) (grows at s)) from.origins);
-      marks = rw (holding_origins there item, ← before, way_is) (ok_on _ _ r (λ x marks. marks at s) from.marks);
+      marks = rw (holding_origins there item, ← before, way_is) (IfOk-weaker r _ _ (λ x marks. marks at s) from.marks);
     }
 
 -- A child to which no table is added leads on to nothing.
-pub from_none : (rows : Rows) (level n : ℕ) (old mid now : Child) (r : Result (Unit {0}) Clash) (clash : Clash)
-    → child_trie mid ≡ child_trie old
+pub from_none : {rows : Rows} {level n : ℕ} {old now : Child} {r : Result (Unit {0}) Clash} (mid : Child)
+    (clash : Clash) → child_trie mid ≡ child_trie old
     → ((rows : Rows) → IsKeptOut (put_element rows (item_trie (out-Child mid).item)) rows (level + 2) clash)
     → ((rows : Rows) → NamesObstacle (element_obstacle (level + 1) rows (item_trie (out-Child mid).item)) clash)
     → IsErrAnd r (λ f. f ≡ clash) → TakesHeaderAtKey true rows [] level n false old now r
-from_none rows level n old mid now r clash same out named is =
+from_none {rows} {level} {n} {old} {now} {r} mid clash same out named is =
     let before = sym (child_item_trie mid) ∙ same in
-    failed (λ r. TakesHeaderAtKey true rows [] level n false old now r) r clash is (record {
+    let p = err_from_is_err_and r is in
+    rw (p.1, p.2) (record {
       entered = rw (← before) (out rows);
       named = rw (← before) (named rows);
       origins = tt;

@@ -1,7 +1,6 @@
 -- The way of a header through a trie, a node at a time: what it enters, on which level, what it meets and its steps.
-use Rattle.std.proofs.Common.{◌≡◌, inl, inr, ℕ, suc, ◌+◌, ◌<◌, ◌≤◌, Bool, true, false, List, [], ◌∷◌, ◌++◌}
-use Rattle.std.proofs.Common.{length, Option, Some, None, refl, ap, sym, ◌∙◌, arith, option_map}
-use Rattle.std.proofs.Common.{length-append}
+use Rattle.std.proofs.Common.{◌≡◌, inl, inr, ℕ, suc, ◌+◌, ◌<◌, ◌≤◌, Bool, true, false, List, [], ◌∷◌, ◌++◌, length}
+use Rattle.std.proofs.Common.{Option, Some, None, Result, Ok, Err, refl, ap, sym, ◌∙◌, arith, option_map, length-append}
 use Rattle.std.specs.Option.{option_or}
 use Rattle.std.proofs.lemmas.Bool.{cases_lt, false≢true}
 use Rattle.basic_toml_value.specs.Nesting.{nesting_limit}
@@ -11,16 +10,16 @@ use Rattle.basic_toml_grammar.specs.Steps.{Path, key, number}
 use Rattle.basic_toml_grammar.specs.Standing as standing
 use Rattle.basic_toml_grammar.specs.Stops.{at_header}
 use Rattle.basic_toml_grammar.specs.Trie.{Trie, trie, Tries, no_tries, nothing, walk, steps_to, put_rows, put_table}
-use Rattle.basic_toml_grammar.specs.Trie.{put_element, among, find, with_tries}
+use Rattle.basic_toml_grammar.specs.Trie.{put_element, among, find}
 use Rattle.basic_toml_plain.specs.Tries.{leaf}
 use Rattle.basic_toml_grow.specs.declared.clash.Clash.{Clash}
 use Rattle.basic_toml_grow.specs.declared.clash.Clash.TheVariants.{Memory, Deep}
 use Rattle.basic_toml_grow.specs.Clash.{Obstacle, too_deep, in_the_way}
 use Rattle.basic_toml_grow.specs.Item.{by_numbers}
-use Rattle.basic_toml_grow.specs.Rows.{AreIn, AreKeptOut}
-use Rattle.basic_toml_grow.specs.Headers.{IsIn, IsKeptOut, entered_by, steps_by, obstacle_by, entered_at, steps_at}
+use Rattle.basic_toml_grow.specs.Rows.{EntersRows}
+use Rattle.basic_toml_grow.specs.Headers.{EntersItem, entered_by, steps_by, obstacle_by, entered_at, steps_at}
 use Rattle.basic_toml_grow.specs.Headers.{obstacle_at, is_last}
-use Rattle.basic_toml_grow.specs.Obstacles.{above, keys_obstacle, table_obstacle}
+use Rattle.basic_toml_grow.specs.Obstacles.{above, keys_obstacle}
 use Rattle.basic_toml_grow.specs.Ways.{way, way_by, way_at}
 use Rattle.basic_toml_grow.proofs.LatestInATrie.{mapped_twice, among_latest, find_latest, among_next, find_next}
 use Rattle.basic_toml_grow.proofs.ObstaclesPassOn.{behind_low, behind_high}
@@ -37,33 +36,32 @@ abbrev pub array_of : List Trie → Trie → Trie
 array_of before latest =
     trie (Some (standing.array (suc (length before)))) None (by_numbers 0 (before ++ latest ∷ []))
 
--- what is entered elsewhere in the same way
-pub is_in : (e f : Option Trie) (rows : Rows) (l m : ℕ) (t u : Trie) → f ≡ Some u → m ≡ l → IsIn e rows l t
-    → IsIn f rows m u
-is_in e f rows l m t u gives same is = record { gives = gives; apart = is.apart; fits = rw same is.fits }
+-- what is entered further on is entered here
+pub entered_on : {e : Option Trie} {l m : ℕ} {after : Trie} (w : Option Trie) (t : Trie) (rows : Rows)
+    (f : Trie → Trie) (r : Result (Unit {0}) Clash) → e ≡ option_map f w → l ≡ m → after ≡ f t
+    → EntersItem w rows m t r → EntersItem e rows l after r
+entered_on w t rows f (Ok x) goes level made_of is = record {
+  gives = goes ∙ ap (option_map f) is.gives ∙ ap Some (sym made_of);
+  apart = is.apart;
+  fits = rw level is.fits;
+}
+entered_on w t rows f (Err Memory) goes level made_of out = tt
+entered_on w t rows f (Err Deep) goes level made_of out = rw level out
+entered_on w t rows f (Err _) goes level made_of (inl clash) = inl clash
+entered_on w t rows f (Err _) goes level made_of (inr none) = inr (goes ∙ ap (option_map f) none)
 
-pub is_kept_out : (clash : Clash) (e f : Option Trie) (rows : Rows) (l m : ℕ) → (e ≡ None → f ≡ None) → m ≡ l
-    → IsKeptOut e rows l clash → IsKeptOut f rows m clash
-is_kept_out Memory e f rows l m barred same out = tt
-is_kept_out Deep e f rows l m barred same out = rw same out
-is_kept_out _ e f rows l m barred same (inl clash) = inl clash
-is_kept_out _ e f rows l m barred same (inr none) = inr (barred none)
-
--- rows that are put into a table, and those that are not
-pub rows_in : (e : Option Trie) (rows : Rows) (l m : ℕ) (t u : Trie) → e ≡ put_rows rows t → m ≡ l
-    → l ≤ nesting_limit → AreIn rows l t u → IsIn e rows m u
-rows_in e rows l m t u same level within are = record {
+-- and rows that are put into a table, or are not
+pub rows_entered : (e : Option Trie) (rows : Rows) (l m : ℕ) (t after : Trie) (r : Result (Unit {0}) Clash)
+    → e ≡ put_rows rows t → m ≡ l → l ≤ nesting_limit → EntersRows rows l t after r → EntersItem e rows m after r
+rows_entered e rows l m t after (Ok x) same level within are = record {
   gives = same ∙ are.put;
   apart = are.apart;
   fits = rw level (grind (arith, are.fits));
 }
-
-pub rows_kept_out : (clash : Clash) (e : Option Trie) (rows : Rows) (l m : ℕ) (t : Trie) → e ≡ put_rows rows t → m ≡ l
-    → AreKeptOut rows l t clash → IsKeptOut e rows m clash
-rows_kept_out Memory e rows l m t same level out = tt
-rows_kept_out Deep e rows l m t same level out = rw level (grind (arith, out))
-rows_kept_out _ e rows l m t same level (inl clash) = inl clash
-rows_kept_out _ e rows l m t same level (inr none) = inr (same ∙ none)
+rows_entered e rows l m t after (Err Memory) same level within out = tt
+rows_entered e rows l m t after (Err Deep) same level within out = rw level (grind (arith, out))
+rows_entered e rows l m t after (Err _) same level within (inl clash) = inl clash
+rows_entered e rows l m t after (Err _) same level within (inr none) = inr (same ∙ none)
 
 -- What a header does from here by the keys that are left: what it enters, how many steps further, what it meets first,
 -- and its way.
@@ -110,10 +108,9 @@ in_latest before c =
 -- a fresh table takes a header as nothing does
 pub course_fresh : (a : Bool) (rows : Rows) (keys : KeyTexts) (l : ℕ)
     → course a rows keys l fresh ≡ course a rows keys l nothing
-course_fresh a rows [] l = refl
 course_fresh true rows (k ∷ []) l = refl
 course_fresh false rows (k ∷ []) l = refl
-course_fresh a rows (k ∷ m ∷ keys) l = refl
+course_fresh _ rows _ l = refl
 
 pub walk_fresh : (a : Bool) (rows : Rows) (keys : KeyTexts) → walk a rows keys fresh ≡ walk a rows keys nothing
 walk_fresh a rows keys = ap (λ (c : Course). c.entered) (course_fresh a rows keys 0)
@@ -129,8 +126,7 @@ pub course_through : (a : Bool) (rows : Rows) (k : List ℕ) (keys : KeyTexts) (
     (key k ∷ way_at a keys (find (key k) ts))
 course_through true rows k [] l p n d ts = refl
 course_through false rows k [] l p n d ts = refl
-course_through true rows k (m ∷ keys) l p n d ts = refl
-course_through false rows k (m ∷ keys) l p n d ts = refl
+course_through _ rows k _ l p n d ts = refl
 
 -- a table above the limit
 pub deep_met : (a : Bool) (rows : Rows) (keys : KeyTexts) (l : ℕ) (t : Trie) → nesting_limit < l
@@ -159,23 +155,19 @@ pub course_latest : (a : Bool) (rows : Rows) (keys : KeyTexts) (l m : ℕ) (befo
     → course_by a rows keys l (array_of before t) ≡ in_latest before (course a rows keys m t)
 course_latest a rows keys l m before t next =
     let latest = find_latest 0 (length before) before t (omega arith) in
-    same_course (enter_latest a rows keys before t) (ap (λ t. suc (suc (steps_to a keys t))) latest)
-    (ap (λ t. option_or (above l) (keys_obstacle a rows keys (l + 1) t)) latest ∙ array_aside a rows keys l t
-    ∙ ap (λ m. keys_obstacle a rows keys m t) next)
-    (ap (λ t. number (length before) ∷ way a keys t) latest)
+    same_course (enter_latest a rows keys before t) (rw latest refl)
+    (rw (latest, array_aside a rows keys l t, next) refl) (rw latest refl)
 
 -- one more element than some tables
 pub put_next : (rows : Rows) (before : List Trie) (t : Trie)
     → put_element rows (array_of before t)
     ≡ option_map (λ u. array_of (before ++ t ∷ []) u) (put_table rows fresh)
 put_next rows before t =
-    let len : length (before ++ t ∷ []) ≡ suc (length before) = omega (arith, length-append before (t ∷ [])) in
-    ap (λ ts. with_tries (Some (standing.array (suc (suc (length before))))) None ts)
-    (among_next 0 (suc (length before)) (before ++ t ∷ []) (λ t. put_table rows t) (omega arith))
-    ∙ mapped_twice (λ ts. trie (Some (standing.array (suc (suc (length before))))) None ts)
-    (λ u. by_numbers 0 ((before ++ t ∷ []) ++ u ∷ [])) (put_table rows nothing)
-    ∙ ap (λ n. option_map (λ u. trie (Some (standing.array (suc n))) None (by_numbers 0 ((before ++ t ∷ []) ++ u ∷ [])))
-    (put_table rows nothing)) (sym len)
+    let more = before ++ t ∷ [] in
+    let len : length more ≡ suc (length before) = omega (arith, length-append before (t ∷ [])) in
+    rw (len, among_next 0 (suc (length before)) more (λ t. put_table rows t) (omega arith))
+    (mapped_twice (λ ts. trie (Some (standing.array (suc (suc (length before))))) None ts)
+    (λ u. by_numbers 0 (more ++ u ∷ [])) (put_table rows nothing))
 
 pub course_next : (rows : Rows) (l : ℕ) (before : List Trie) (t : Trie)
     → course_at true rows [] l (array_of before t) ≡ course_by true rows [] l (array_of (before ++ t ∷ []) fresh)
@@ -183,10 +175,8 @@ course_next rows l before t =
     let more = before ++ t ∷ [] in
     let len : suc (length before) ≡ length more = omega (arith, length-append before (t ∷ [])) in
     same_course (put_next rows before t ∙ sym (enter_latest true rows [] more fresh)) refl
-    (ap (λ t. option_or (above l) (table_obstacle (l + 1) rows t))
-    (find_next 0 (suc (length before)) more (omega arith))
-    ∙ ap (λ t. option_or (above l) (table_obstacle (l + 1) rows t))
-    (sym (find_latest 0 (length more) more fresh (omega arith)))) (ap (λ n. number n ∷ []) len)
+    (rw (find_next 0 (suc (length before)) more (omega arith), find_latest 0 (length more) more fresh (omega arith))
+    refl) (ap (λ n. number n ∷ []) len)
 
 -- a value bars a header
 pub course_barred : (a : Bool) (rows : Rows) (keys : KeyTexts) (l : ℕ) (d : Data) → l ≤ nesting_limit

@@ -1,7 +1,7 @@
 -- What goes on from an item by the keys of a header that are left is what goes on from what stood at its key: where
 -- that is the item, where the item is new, and where it has one table more.
 use Rattle.std.proofs.Common.{◌≡◌, ◌≤◌, ℕ, Bool, true, false, List, [], ◌∷◌, map, length, refl, ap, ap₂, sym}
-use Rattle.std.proofs.Common.{◌∙◌, subst, arith, rules}
+use Rattle.std.proofs.Common.{◌∙◌, arith, rules}
 use Rattle.std.proofs.lemmas.List.{map-append}
 use Rattle.basic_toml_grammar.specs.Sections.{KeyTexts, Rows}
 use Rattle.basic_toml_read.specs.declared.section.Key as code
@@ -39,8 +39,7 @@ array_leads rows l i new =
     let is : item_trie i ≡ array_of [] fresh =
     ap item_trie new.is ∙ tables_trie new.array ∙ ap₂ array_of (ap (map table_trie) new.none) new.empty in record {
       same = ap (course_by true rows [] l) (sym is);
-      keeps = λ at s. subst (λ (t : Trie). Keeps (way_by true [] t) no_origins (item_origins i at s)) (sym is)
-          (rw new.is (new_array_keeps new.array at s new.none new.empty));
+      keeps = λ at s. rw (is, new.is) (new_array_keeps new.array at s new.none new.empty);
     }
 
 new_leads : (a : Bool) (rows : Rows) (keys : KeyTexts) (l : ℕ) (i : items.Item) → IsNew (is_last a keys) i
@@ -49,18 +48,18 @@ new_leads true rows [] l i new = array_leads rows l i new
 new_leads a rows keys l i new = table_leads a rows keys l i refl new
 
 -- what stood at a key, and an item from which a header goes on
-pub lead : (a : Bool) (rows : Rows) (keys : KeyTexts) (l : ℕ) (is_new : Bool) (i : items.Item)
+pub lead : {a : Bool} {rows : Rows} {keys : KeyTexts} {l : ℕ} (is_new : Bool) {i : items.Item}
     → (is_new ≡ true → IsNew (is_last a keys) i) → (is_new ≡ false → is_last a keys ≡ false)
     → Leads a rows keys l (trie_before is_new (item_trie i)) (λ at s. origins_before is_new (item_origins i at s)) i
-lead a rows keys l true i new not = new_leads a rows keys l i (new refl)
-lead a rows keys l false i new not = record {
+lead {a} {rows} {keys} {l} true {i} new not = new_leads a rows keys l i (new refl)
+lead {a} {rows} {keys} {l} false {i} new not = record {
   same = no_last a rows keys l (item_trie i) (not refl);
   keeps = λ at s p aside. refl;
 }
 
-pub lead_more : (rows : Rows) (l : ℕ) (old i : items.Item) → HasOneMore old i
+pub lead_more : {rows : Rows} {l : ℕ} {old i : items.Item} → HasOneMore old i
     → Leads true rows [] l (item_trie old) (item_origins old) i
-lead_more rows l old i one =
+lead_more {rows} {l} {old} {i} one =
     let was : item_trie old ≡ array_of (map table_trie one.before.value.0.items) (table_trie one.before.value.1) =
     ap item_trie one.was ∙ tables_trie one.before in
     let is : item_trie i ≡ array_of (map table_trie one.after.value.0.items) fresh =
@@ -70,8 +69,7 @@ lead_more rows l old i one =
     record {
       same = ap (course_at true rows [] l) was ∙ course_next rows l _ _
           ∙ ap (course_by true rows [] l) (sym (is ∙ ap (λ ts. array_of ts fresh) more));
-      keeps = λ at s. subst (λ (t : Trie). Keeps (way_by true [] t) (item_origins old at s) (item_origins i at s))
-          (sym is) (rw (one.was, one.is) (more_keeps one.before one.after at s one.tables one.empty));
+      keeps = λ at s. rw (is, one.was, one.is) (more_keeps one.before one.after at s one.tables one.empty);
     }
 
 -- what is no array's last key

@@ -5,9 +5,9 @@ use Rattle.std.specs.List.{join_with_byte}
 use Rattle.std.proofs.lemmas.List.{append_assoc, length-map, take-map, take_more}
 use Rattle.basic_toml_tokens.specs.Ascii.{period}
 use Rattle.basic_toml_grammar.specs.Sections.{KeyTexts, texts}
-use Rattle.basic_toml_grammar.specs.Faults.{duplicate_key, duplicate_table, redefine_as_array}
+use Rattle.basic_toml_grammar.specs.Faults.{duplicate_key}
 use Rattle.basic_toml_grammar.specs.NamedClash.{nth_key}
-use Rattle.basic_toml_grammar.specs.Stops.{at_header, is_named, is_passed, at_row, stop_fault}
+use Rattle.basic_toml_grammar.specs.Stops.{at_header, stop_fault}
 use Rattle.basic_toml_explain.specs.Error.{fault_within}
 use Rattle.basic_toml_read.specs.KeyText.{key_text_bytes}
 use Rattle.basic_toml_read.specs.declared.section.Key as code
@@ -49,22 +49,6 @@ header_fault_is s left n key offset path number is_key is_path =
     let first : texts (take n (section_of s).header) ≡ path =
     ap texts (take-map key_of n s.header.items) ∙ sym is_path in
     rw (at, first, is_key) refl
-
--- the faults that tell all keys of the header
-pub table_fault_is : (s : Section) (name : List ℕ) (path : KeyTexts)
-    → name ≡ join_with_byte period (header_texts s.header.items) → path ≡ header_texts s.header.items
-    → fault_within (duplicate_table name) s.at path ≡ stop_fault (section_of s) is_named
-table_fault_is s name path is_name is_path = rw (is_name, is_path) refl
-
-pub array_fault_is : (s : Section) (path : KeyTexts) → path ≡ header_texts s.header.items
-    → fault_within redefine_as_array s.at path ≡ stop_fault (section_of s) is_passed
-array_fault_is s path is_path = rw is_path refl
-
-pub row_fault_is : (s : Section) (k : List ℕ) (offset : ℕ) (keys more : KeyTexts)
-    → keys ≡ header_texts s.header.items
-    → fault_within (duplicate_key k) offset (keys ++ more)
-    ≡ stop_fault (section_of s) (at_row more (record { offset = offset; text = k }))
-row_fault_is s k offset keys more is_keys = rw is_keys refl
 
 -- keys joined by periods, and one more
 join_more : (p k : List ℕ) (ps : KeyTexts)

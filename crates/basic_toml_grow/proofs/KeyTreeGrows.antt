@@ -1,9 +1,10 @@
 -- A row is followed by a tree, one key after another.
-use Rattle.std.proofs.Common.{◌≡◌, ◌⊎◌, inl, inr, ℕ, true, false, List, [], ◌∷◌, ◌++◌, refl, sym, ap, ◌∙◌, map, rules}
-use Rattle.std.proofs.Common.{Option, Some, None, option_map, Bool, Result, Ok, Err}
+use Rattle.std.proofs.Common.{◌≡◌, ◌⊎◌, inl, inr, ℕ, false, List, [], ◌∷◌, ◌++◌, refl, sym, ap, ◌∙◌, map, rules}
+use Rattle.std.proofs.Common.{Option, Some, None, option_map, Result, Ok, Err}
 use Rattle.std.specs.List.{slice_get}
 use Rattle.std.specs.Option.{option_or}
 use Rattle.std.specs.Str.{bytes_eq}
+use Rattle.std.proofs.lemmas.Bool.{cases_Bool}
 use Rattle.std.proofs.lemmas.Slice.Eq.{bytes_eq-Decides}
 use Rattle.basic_toml_value.specs.Pairs.{value_at}
 use Rattle.basic_toml_grammar.specs.Sections.{KeyTexts}
@@ -11,7 +12,8 @@ use Rattle.basic_toml_grow.specs.declared.crossed.KeyTree.{KeyTree, out-KeyTree,
 use Rattle.basic_toml_grow.specs.declared.crossed.KeyTree.TheOpen.{KeyTree-F}
 use Rattle.basic_toml_grow.specs.declared.crossed.Crossed.{Crossed}
 use Rattle.basic_toml_grow.specs.declared.crossed.Crossed.TheVariants.{Memory, At}
-use Rattle.basic_toml_grow.specs.KeyTree.{Ends, ends_below, ends_from, ends_of, no_key_tree, value_on, Follows, FollowsTo}
+use Rattle.basic_toml_grow.specs.KeyTree.{Ends, ends_below, ends_from, ends_of, no_key_tree, value_on, Follows}
+use Rattle.basic_toml_grow.specs.KeyTree.{FollowsTo}
 use Rattle.basic_toml_grow.proofs.ValuesOnTheWay.{same_on}
 use Rattle.basic_toml_value.specs.Growth.{with_value, values_of, FindsOrAdds}
 use Rattle.basic_toml_value.specs.declared.pairs.growth.Place.{Place}
@@ -46,9 +48,7 @@ filled_below t new i gone = search (rules, the_lemmas)
 -- nothing ends where no row is followed yet
 pub nowhere : (path : KeyTexts) → ends_of no_key_tree path ≡ None
 nowhere path =
-    ap (λ e. e path) (key_tree_ends no_key_tree)
-    ∙ ap (λ x. ends_from x.end (map (λ p. (p.0, ends_of p.1)) x.below) path) (rolled (record { end = None; below = [] }))
-    ∙ none path
+    rw (key_tree_ends no_key_tree, rolled (record { end = None; below = [] })) (none path)
   where
     none : (path : KeyTexts) → ends_from None [] path ≡ None
     none [] = refl
@@ -56,17 +56,13 @@ nowhere path =
 
 pub ends_at_key : (t : KeyTree) (k : List ℕ) (path : KeyTexts)
     → ends_of t (k ∷ path) ≡ ends_below (option_map ends_of (value_at (out-KeyTree t).below k)) path
-ends_at_key t k path =
-    ap (λ e. e (k ∷ path)) (key_tree_ends t)
-    ∙ ap (λ o. ends_below o path) (value_at-map ends_of (out-KeyTree t).below k)
+ends_at_key t k path = rw (key_tree_ends t, value_at-map ends_of (out-KeyTree t).below k) refl
 
 -- a path that goes on meets the value that ends here
 pub met_here : (t : KeyTree) (end : ℕ) → (out-KeyTree t).end ≡ Some end → (front : KeyTexts) (k : List ℕ)
     → value_on (ends_of t) (front ++ k ∷ []) ≡ Some end
-met_here t end is [] k = ap (λ o. option_or o None) (ap (λ e. e []) (key_tree_ends t) ∙ is)
-met_here t end is (l ∷ front) k =
-    ap (λ o. option_or o (value_on (λ p. ends_of t (l ∷ p)) (front ++ k ∷ [])))
-    (ap (λ e. e []) (key_tree_ends t) ∙ is)
+met_here t end is [] k = rw (key_tree_ends t, is) refl
+met_here t end is (l ∷ front) k = rw (key_tree_ends t, is) refl
 
 -- the values on the way by a key at which none ends
 goes_deeper : (before there : Ends) (k : List ℕ) → before [] ≡ None → ((p : KeyTexts) → before (k ∷ p) ≡ there p)
@@ -87,56 +83,38 @@ module _ (before after there gone : Ends) (k : List ℕ) (at_none : before [] �
     told = told;
   }
     where
-      kept_at : (l : List ℕ) (p : KeyTexts) (s : ℕ) (b : Bool) → bytes_eq l k ≡ b → before (l ∷ p) ≡ Some s
-          → after (l ∷ p) ≡ Some s
-      kept_at l p s true same at =
-          let key : l ≡ k = (bytes_eq-Decides l k).0 same in
-          rw key (is p ∙ deeper.kept p s (sym (was p) ∙ rw key at at))
-      kept_at l p s false other at = others l p other ∙ at
-
       kept : (p : KeyTexts) (s : ℕ) → before p ≡ Some s → after p ≡ Some s
       kept [] s at = absurd (cc)
-      kept (l ∷ p) s at = kept_at l p s (bytes_eq l k) refl at
-
-      told_there : (p : KeyTexts) (s : ℕ) → (there p ≡ Some s) ⊎ ((p ≡ path) × (s ≡ start))
-          → (before (k ∷ p) ≡ Some s) ⊎ ((k ∷ p ≡ k ∷ path) × (s ≡ start))
-      told_there p s (inl at) = inl (was p ∙ at)
-      told_there p s (inr own) = inr (ap (λ p. k ∷ p) own.0, own.1)
-
-      told_at : (l : List ℕ) (p : KeyTexts) (s : ℕ) (b : Bool) → bytes_eq l k ≡ b → after (l ∷ p) ≡ Some s
-          → (before (l ∷ p) ≡ Some s) ⊎ ((l ∷ p ≡ k ∷ path) × (s ≡ start))
-      told_at l p s true same at =
-          let key : l ≡ k = (bytes_eq-Decides l k).0 same in
-          rw key (told_there p s (deeper.told p s (sym (is p) ∙ rw key at at)))
-      told_at l p s false other at = inl (sym (others l p other) ∙ at)
+      kept (l ∷ p) s at = elim (cases_Bool (bytes_eq l k)) [
+        | inl same ↦
+            let key : l ≡ k = (bytes_eq-Decides l k).0 same in
+            rw key (is p ∙ deeper.kept p s (sym (was p) ∙ rw key at at))
+        | inr other ↦ others l p other ∙ at
+      ]
 
       told : (p : KeyTexts) (s : ℕ) → after p ≡ Some s → (before p ≡ Some s) ⊎ ((p ≡ k ∷ path) × (s ≡ start))
       told [] s at = absurd (cc)
-      told (l ∷ p) s at = told_at l p s (bytes_eq l k) refl at
+      told (l ∷ p) s at = elim (cases_Bool (bytes_eq l k)) [
+        | inl same ↦
+            let key : l ≡ k = (bytes_eq-Decides l k).0 same in
+            elim (deeper.told p s (sym (is p) ∙ rw key at at)) [
+              | inl there ↦ inl (rw key (was p ∙ there))
+              | inr own ↦ inr (rw (key, own.0) refl, own.1)
+            ]
+        | inr other ↦ inl (sym (others l p other) ∙ at)
+      ]
 
 -- a tree where a key is entered
 module _ {gives : KeyTree → Type 0} (t there : KeyTree) (k : List ℕ) (new : List (List ℕ × KeyTree)) (p : Place)
     (e : FindsOrAdds gives k (out-KeyTree t).below new p) (fresh : (u : KeyTree) → gives u → u ≡ no_key_tree)
     (stands : slice_get (values_of new) p.position ≡ Some there) where
   stood : (path : KeyTexts) → ends_of t (k ∷ path) ≡ ends_of there path
-  stood path = ends_at_key t k path
-      ∙ go (stood_or_fresh k e.there (out-KeyTree t).below new p.position e.entered there stands)
-    where
-      go : (value_at (out-KeyTree t).below k ≡ Some there)
-          ⊎ ((value_at (out-KeyTree t).below k ≡ None) × (there ≡ e.there))
-          → ends_below (option_map ends_of (value_at (out-KeyTree t).below k)) path ≡ ends_of there path
-      go (inl at) = ap (λ o. ends_below (option_map ends_of o) path) at
-      go (inr none) =
-          ap (λ o. ends_below (option_map ends_of o) path) none.0
-          ∙ sym (ap (λ t. ends_of t path) (none.1
-          ∙ fresh e.there (made_first gives k (out-KeyTree t).below new p e none.0)) ∙ nowhere path)
-
-  -- what went wrong below goes wrong here
-  pub fault_below : (out-KeyTree t).end ≡ None → (path : KeyTexts) (start : ℕ) (gone u : KeyTree) (e : Crossed)
-      → FollowsTo there path start gone (Err e) → FollowsTo t (k ∷ path) start u (Err e)
-  fault_below t_end path start gone u Memory goes = tt
-  fault_below t_end path start gone u (At at) goes =
-      goes_deeper (ends_of t) (ends_of there) k (ap (λ e. e []) (key_tree_ends t) ∙ t_end) stood path ∙ goes
+  stood path = elim (stood_or_fresh k e.there (out-KeyTree t).below new p.position e.entered there stands) [
+    | inl at ↦ rw (ends_at_key t k path, at) refl
+    | inr none ↦
+        let new = fresh e.there (made_first gives k (out-KeyTree t).below new p e none.0) in
+        rw (ends_at_key t k path, none.0, none.1, new) (sym (nowhere path))
+  ]
 
   -- what has gone on stands there then
   module _ (gone : KeyTree) (t_end : (out-KeyTree t).end ≡ None) where
@@ -151,27 +129,27 @@ module _ {gives : KeyTree → Type 0} (t there : KeyTree) (k : List ℕ) (new : 
 
     stands_now : (path : KeyTexts) → ends_of u (k ∷ path) ≡ ends_of gone path
     stands_now path =
-        ends_at_key u k path
-        ∙ ap (λ ps. ends_below (option_map ends_of (value_at ps k)) path) (filled_below t new p.position gone)
-        ∙ ap (λ o. ends_below (option_map ends_of o) path)
-        (put_at k e.there (out-KeyTree t).below new p.position e.entered there stands gone)
+        rw (
+          ends_at_key u k path,
+          filled_below t new p.position gone,
+          put_at k e.there (out-KeyTree t).below new p.position e.entered there stands gone,
+        )
+        refl
 
     elsewhere : (l : List ℕ) (path : KeyTexts) → bytes_eq l k ≡ false → ends_of u (l ∷ path) ≡ ends_of t (l ∷ path)
     elsewhere l path other =
-        ends_at_key u l path
-        ∙ ap (λ ps. ends_below (option_map ends_of (value_at ps l)) path) (filled_below t new p.position gone)
-        ∙ ap (λ o. ends_below (option_map ends_of o) path)
-        (kept_elsewhere k e.there (out-KeyTree t).below new p.position e.entered there stands gone l other)
-        ∙ sym (ends_at_key t l path)
+        rw (
+          ends_at_key u l path,
+          filled_below t new p.position gone,
+          kept_elsewhere k e.there (out-KeyTree t).below new p.position e.entered there stands gone l other,
+        )
+        (sym (ends_at_key t l path))
 
-    pub row_below : (path : KeyTexts) (start : ℕ) → Follows (ends_of there) (ends_of gone) path start
-        → Follows (ends_of t) (ends_of u) (k ∷ path) start
-    row_below path start follows =
-        follows_deeper (ends_of t) (ends_of u) (ends_of there) (ends_of gone) k at_none still_none stood stands_now
-        elsewhere path start follows
-
-    -- and so is what the whole way gives
+    -- what goes on below goes on here, and so does what goes wrong
     pub row_on : (path : KeyTexts) (start : ℕ) (r : Result (Unit {0}) Crossed) → FollowsTo there path start gone r
         → FollowsTo t (k ∷ path) start u r
-    row_on path start (Ok x) goes = row_below path start goes
-    row_on path start (Err e) goes = fault_below t_end path start gone u e goes
+    row_on path start (Ok x) goes =
+        follows_deeper (ends_of t) (ends_of u) (ends_of there) (ends_of gone) k at_none still_none stood stands_now
+        elsewhere path start goes
+    row_on path start (Err Memory) goes = tt
+    row_on path start (Err (At at)) goes = goes_deeper (ends_of t) (ends_of there) k at_none stood path ∙ goes

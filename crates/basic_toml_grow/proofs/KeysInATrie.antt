@@ -1,12 +1,12 @@
 -- A key that is entered among keys with their values, and what stands at it in the trie of these.
-use Rattle.std.proofs.Common.{◌≡◌, ℕ, suc, zero, true, false, ◌||◌, List, [], ◌∷◌, ◌++◌, refl, sym, take}
-use Rattle.std.proofs.Common.{if◌then◌else◌}
-use Rattle.std.proofs.Common.{ap, ◌∙◌, Option, option_map, Some, map, Bool}
+use Rattle.std.proofs.Common.{◌≡◌, ℕ, suc, zero, true, false, List, [], ◌∷◌, ◌++◌, refl, sym, take}
+use Rattle.std.proofs.Common.{inl, inr, ap, ◌∙◌, Option, option_map, Some, map, Bool}
 use Rattle.std.specs.List.{slice_get}
 use Rattle.std.specs.Prelude.{not}
 use Rattle.std.specs.Str.{bytes_eq}
-use Rattle.std.proofs.lemmas.Bool.{false≢true}
+use Rattle.std.proofs.lemmas.Bool.{cases_Bool, false≢true, or_parts}
 use Rattle.std.proofs.lemmas.List.{map-append}
+use Rattle.std.proofs.lemmas.Simd.{map-map}
 use Rattle.basic_toml_index.specs.Keys.{is_among}
 use Rattle.basic_toml_value.specs.Pairs.{keys_of, has_key}
 use Rattle.basic_toml_index.proofs.DistinctKeys.{bytes_eq-same, bytes_eq_other}
@@ -23,14 +23,10 @@ abbrev Pairs : Type 0
 Pairs = List (List ℕ × Trie)
 
 -- a key that is none of these
-neither : (a b : Bool) → (a || b) ≡ false → (a ≡ false) × (b ≡ false)
-neither true b e = absurd (cc)
-neither false b e = (refl, e)
-
 differs : (k l : List ℕ) (ks : List (List ℕ)) → is_among (l ∷ ks) k ≡ false
     → (bytes_eq l k ≡ false) × (is_among ks k ≡ false)
 differs k l ks absent =
-    let both = neither (bytes_eq k l) (is_among ks k) absent in
+    let both = or_parts (bytes_eq k l) (is_among ks k) absent in
     (bytes_eq_other l k both.0, both.1)
 
 -- a change at a key is one at its first position
@@ -103,8 +99,7 @@ module _ {V : Type 0} (f : V → Trie) where
 
   keys_same : (ps : List (List ℕ × V)) → keys_of (tries_of ps) ≡ keys_of ps
   unfolding tries_of
-  keys_same [] = refl
-  keys_same (p ∷ ps) = ap (λ ks. p.0 ∷ ks) (keys_same ps)
+  keys_same ps = map-map (λ p. p.0) (λ p. (p.0, f p.1)) ps
 
   value_mapped : (ps : List (List ℕ × V)) (i : ℕ) (v : V) → slice_get (values_of ps) i ≡ Some v
       → slice_get (values_of (tries_of ps)) i ≡ Some (f v)
@@ -121,8 +116,8 @@ module _ {V : Type 0} (f : V → Trie) where
   with_mapped (p ∷ ps) (suc i) v = ap (λ ps. (p.0, f p.1) ∷ ps) (with_mapped ps i v)
 
   -- a key is entered
-  module _ {gives : V → Type 0} (k : List ℕ) (old new : List (List ℕ × V)) (p : Place) (e : FindsOrAdds gives k old new p)
-      (there : V) (stands : slice_get (values_of new) p.position ≡ Some there) where
+  module _ {gives : V → Type 0} (k : List ℕ) (old new : List (List ℕ × V)) (p : Place)
+      (e : FindsOrAdds gives k old new p) (there : V) (stands : slice_get (values_of new) p.position ≡ Some there) where
     at_mapped : slice_get (keys_of (tries_of new)) p.position ≡ Some k
     at_mapped = ap (λ ks. slice_get ks p.position) (keys_same new) ∙ e.entered.at
 
@@ -137,16 +132,15 @@ module _ {V : Type 0} (f : V → Trie) where
 
     -- what stood at the key
     pub stood_there : find (steps.key k) (by_keys (tries_of old)) ≡ trie_before p.is_new (f there)
-    stood_there = go (has_key old k) refl e.entered.pairs
-      where
-        go : (b : Bool) → has_key old k ≡ b → new ≡ (if b then old else old ++ (k, e.there) ∷ [])
-            → find (steps.key k) (by_keys (tries_of old)) ≡ trie_before p.is_new (f there)
-        go true is pairs =
-            sym (ap (λ ps. find (steps.key k) (by_keys (tries_of ps))) pairs)
-            ∙ found_first (tries_of new) p.position k (f there) at_mapped first_mapped
-            (value_mapped new p.position there stands)
-            ∙ sym (before_is true is)
-        go false is pairs = find_none (tries_of old) k (absent_mapped is) ∙ sym (before_is false is)
+    stood_there = elim (cases_Bool (has_key old k)) [
+      | inl is ↦
+          let same : new ≡ old = rw is at e.entered.pairs in
+          ap (λ ps. find (steps.key k) (by_keys (tries_of ps))) (sym same)
+          ∙ found_first (tries_of new) p.position k (f there) at_mapped first_mapped
+          (value_mapped new p.position there stands)
+          ∙ sym (before_is true is)
+      | inr is ↦ find_none (tries_of old) k (absent_mapped is) ∙ sym (before_is false is)
+    ]
 
     one_more : (child : V) → tries_of (old ++ (k, child) ∷ []) ≡ tries_of old ++ (k, f child) ∷ []
     unfolding tries_of
@@ -156,23 +150,22 @@ module _ {V : Type 0} (f : V → Trie) where
     pub change_made : (g : Trie → Option Trie)
         → among (steps.key k) g (by_keys (tries_of old))
         ≡ option_map (λ u. by_keys (with_value (tries_of new) p.position u)) (g (trie_before p.is_new (f there)))
-    change_made g = go (has_key old k) refl e.entered.pairs
-      where
-        put : Trie → Tries
-        put u = by_keys (with_value (tries_of new) p.position u)
-
-        go : (b : Bool) → has_key old k ≡ b → new ≡ (if b then old else old ++ (k, e.there) ∷ [])
-            → among (steps.key k) g (by_keys (tries_of old)) ≡ option_map put (g (trie_before p.is_new (f there)))
-        go true is pairs =
-            sym (ap (λ ps. among (steps.key k) g (by_keys (tries_of ps))) pairs)
-            ∙ among_changed (tries_of new) p.position k (f there) g at_mapped first_mapped
-            (value_mapped new p.position there stands)
-            ∙ ap (λ t. option_map put (g t)) (sym (before_is true is))
-        go false is pairs =
-            let more = ap tries_of pairs ∙ one_more e.there in
-            let at = sym (ap (λ ps. slice_get (keys_of ps) p.position) more) ∙ at_mapped in
-            among_added (tries_of old) k g (absent_mapped is)
-            ∙ mapped_same (λ u. by_keys (tries_of old ++ (k, u) ∷ [])) put
-            (λ u. ap by_keys (sym (ap (λ ps. with_value ps p.position u) more
-            ∙ with_last (tries_of old) p.position k (f e.there) u (absent_mapped is) at))) (g nothing)
-            ∙ ap (λ t. option_map put (g t)) (sym (before_is false is))
+    change_made g =
+        let put : Trie → Tries = λ u. by_keys (with_value (tries_of new) p.position u) in
+        elim (cases_Bool (has_key old k)) [
+          | inl is ↦
+              let same : new ≡ old = rw is at e.entered.pairs in
+              ap (λ ps. among (steps.key k) g (by_keys (tries_of ps))) (sym same)
+              ∙ among_changed (tries_of new) p.position k (f there) g at_mapped first_mapped
+              (value_mapped new p.position there stands)
+              ∙ ap (λ t. option_map put (g t)) (sym (before_is true is))
+          | inr is ↦
+              let same : new ≡ old ++ (k, e.there) ∷ [] = rw is at e.entered.pairs in
+              let more = ap tries_of same ∙ one_more e.there in
+              let at = sym (ap (λ ps. slice_get (keys_of ps) p.position) more) ∙ at_mapped in
+              among_added (tries_of old) k g (absent_mapped is)
+              ∙ mapped_same (λ u. by_keys (tries_of old ++ (k, u) ∷ [])) put
+              (λ u. ap by_keys (sym (ap (λ ps. with_value ps p.position u) more
+              ∙ with_last (tries_of old) p.position k (f e.there) u (absent_mapped is) at))) (g nothing)
+              ∙ ap (λ t. option_map put (g t)) (sym (before_is false is))
+        ]

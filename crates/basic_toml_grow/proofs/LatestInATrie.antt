@@ -1,6 +1,5 @@
 -- The tables of an array of tables in its trie: what is at the latest number, and at the next one.
-use Rattle.std.proofs.Common.{◌≡◌, ℕ, suc, ◌+◌, ◌<◌, List, [], ◌∷◌, ◌++◌, length, Option, Some, None, true}
-use Rattle.std.proofs.Common.{false}
+use Rattle.std.proofs.Common.{◌≡◌, ℕ, suc, ◌+◌, ◌<◌, List, [], ◌∷◌, ◌++◌, length, Option, Some, None, true, false}
 use Rattle.std.proofs.Common.{refl, ap, arith, nat_eq, option_map}
 use Rattle.basic_toml_grammar.specs.Steps.{number}
 use Rattle.basic_toml_grammar.specs.Trie.{Trie, by, nothing, among, find}
@@ -12,11 +11,10 @@ nat_eq-same n m same = grind arith
 nat_eq-other : (n m : ℕ) → n < m → nat_eq n m ≡ false
 nat_eq-other n m less = grind arith
 
-module _ {A B C : Type 0} where
-  pub mapped_twice : (f : B → C) (h : A → B) (x : Option A)
-      → option_map f (option_map h x) ≡ option_map (λ a. f (h a)) x
-  mapped_twice f h None = refl
-  mapped_twice f h (Some a) = refl
+pub mapped_twice : {A B C : Type 0} (f : B → C) (h : A → B) (x : Option A)
+    → option_map f (option_map h x) ≡ option_map (λ a. f (h a)) x
+mapped_twice f h None = refl
+mapped_twice f h (Some a) = refl
 
 pub mapped_same : {A B : Type 0} (f g : A → B) → ((a : A) → f a ≡ g a) → (x : Option A)
     → option_map f x ≡ option_map g x

@@ -36,4 +36,3 @@ pub mod SectionsEntered
 pub mod SectionsAdded
 pub mod RowsKept
 pub mod SectionsUnfolded
-pub mod RowsAfter

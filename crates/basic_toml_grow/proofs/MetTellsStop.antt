@@ -1,7 +1,6 @@
 -- What a row meets tells what stops it, key by key.
-use Rattle.std.proofs.Common.{rules, ◌≡◌, ℕ, suc, ◌+◌, Bool, true, false, ◌||◌, List, [], ◌∷◌, ◌++◌, refl, sym, ap, ◌∙◌}
-use Rattle.std.proofs.Common.{Option, Some, None, length, take, map, Box, Vec, Global, subst, arith}
-use Rattle.std.proofs.Common.{cond}
+use Rattle.std.proofs.Common.{rules, ◌≡◌, ℕ, ◌+◌, Bool, true, false, ◌||◌, List, [], ◌∷◌, ◌++◌, refl, sym, ap, ◌∙◌}
+use Rattle.std.proofs.Common.{Option, Some, None, Err, length, take, map, Box, Global, arith, cond}
 use Rattle.std.specs.Option.{option_or}
 use Rattle.std.proofs.lemmas.List.{append-nil, append_assoc, length-append, length-map}
 use Rattle.std.specs.List.{slice_get}
@@ -10,15 +9,14 @@ use Rattle.basic_toml_grammar.specs.Sections.{Key, KeyTexts, texts}
 use Rattle.basic_toml_grammar.specs.Steps as steps
 use Rattle.basic_toml_grammar.specs.Marks.{dotted, valued}
 use Rattle.basic_toml_grammar.specs.Standing as standings
-use Rattle.basic_toml_grammar.specs.Trie.{Trie, trie, Tries, below, mark_here}
+use Rattle.basic_toml_grammar.specs.Entering.{and_then}
+use Rattle.basic_toml_grammar.specs.Trie.{Trie, trie, below, mark_here, put_row, standing}
 use Rattle.basic_toml_grammar.specs.Stops.{Stop, at_row, last_stop, Outcome, goes_on, stops, and_on}
 use Rattle.basic_toml_grammar.specs.TrieStops.{try_here, try_step, try_put_row}
 use Rattle.basic_toml_grammar.proofs.Tries.StopsByPath.{path_here, path_stop}
 use Rattle.basic_toml_grammar.proofs.Tries.StopsForgotten.{goes, left_here}
 use Rattle.basic_toml_read.specs.declared.section.Key as code_keys
-use Rattle.basic_toml_read.specs.SectionView.{key_of}
-use Rattle.basic_toml_plain.specs.Tries.{row_trie, rows_trie, by_keys}
-use Rattle.basic_toml_plain.specs.PlainTables.{SectionTables}
+use Rattle.basic_toml_read.specs.SectionView.{header_texts, key_of}
 use Rattle.basic_toml_grow.specs.declared.item.Item as items
 use Rattle.basic_toml_grow.specs.declared.item.Child.{Child, out-Child}
 use Rattle.basic_toml_grow.specs.declared.item.Item.{the_lemmas}
@@ -27,15 +25,15 @@ use Rattle.basic_toml_grow.specs.declared.item.Item.TheViews.{out-roll-Table}
 use Rattle.basic_toml_grow.specs.declared.item.Table.{Table, out-Table, roll-Table}
 use Rattle.basic_toml_grow.specs.declared.met.Met.{Met}
 use Rattle.basic_toml_grow.specs.declared.met.Met.TheVariants as mets
-use Rattle.basic_toml_read.specs.declared.section.Row.{Row}
-use Rattle.basic_toml_grow.specs.Item.{child_trie, table_trie, item_trie, by_numbers, empty_table, trie_before}
+use Rattle.basic_toml_grow.specs.Item.{child_trie, table_trie, item_trie, empty_table, trie_before}
 use Rattle.basic_toml_value.specs.Growth.{values_of, FindsOrAdds}
 use Rattle.basic_toml_value.specs.declared.pairs.growth.Place.{Place}
-use Rattle.basic_toml_grow.specs.RowStops.{key_at, StopsAtKey, TellsStop, TellsLast, TellsRow, TellsExtended}
-use Rattle.basic_toml_grow.proofs.KeysInATrie.{tries_of, stood_there}
+use Rattle.basic_toml_grow.specs.RowStops.{key_at, TellsStop, TellsLast, TellsRow, TellsExtended}
+use Rattle.basic_toml_grow.specs.Takes.{ExtendsBy}
+use Rattle.basic_toml_grow.proofs.KeysInATrie.{stood_there}
 use Rattle.basic_toml_grow.proofs.ItemTries.{child_item_trie, table_entries_trie}
 use Rattle.basic_toml_grow.proofs.ItemsStand.{shape}
-use Rattle.basic_toml_grow.proofs.TablesOpened.{section_item_trie, sections_trie, table_item_trie, tables_trie}
+use Rattle.basic_toml_grow.proofs.TablesOpened.{table_item_trie}
 
 -- what stops one thing stops another
 pub told_on : (before : KeyTexts) (keys : List Key) (k : Key) (o p : Outcome Trie) (met : Met)
@@ -66,39 +64,41 @@ told_further before first keys k o (mets.Header left) told = record {
   stop = told.stop ∙ ap (λ b. stops (at_row b told.there)) (append_assoc before (first.text ∷ []) (texts told.front));
 }
 
--- a header stands at the last key
-stands_last : (before : KeyTexts) (k : Key) (d : Data) (s : standings.Standing) (v : Option Data) (ts : Tries)
-    → last_stop before k (Some s) ≡ at_row before k
-    → StopsAtKey before (k ∷ []) 1 (try_here (valued d) (last_stop before k) (trie (Some s) v ts))
-stands_last before k d s v ts is = record {
+-- what headers made stands at the last key
+abbrev pub by_headers : Option standings.Standing → Bool
+by_headers (Some (standings.table p n d)) = p || n
+by_headers (Some (standings.array n)) = true
+by_headers _ = false
+
+trie_stands : (t : Trie) → by_headers (standing t) ≡ true → TellsLast t (mets.Header 1)
+trie_stands (trie s v ts) made = λ before k d. record {
   front = [];
   there = k;
   rest = [];
   parts = refl;
   count = refl;
-  stop = ap stops (is ∙ ap (λ b. at_row b k) (sym (append-nil before)));
+  stop = go before k d s made ∙ ap (λ b. stops (at_row b k)) (sym (append-nil before));
 }
+  where
+    go : (before : KeyTexts) (k : Key) (d : Data) (s : Option standings.Standing) → by_headers s ≡ true
+        → try_here (valued d) (last_stop before k) (trie s v ts) ≡ stops (at_row before k)
+    go before k d (Some (standings.array n)) made = refl
+    go before k d (Some (standings.table true n e)) made = refl
+    go before k d (Some (standings.table false true e)) made = refl
+    go before k d _ made = absurd (cc)
 
-made_last : (before : KeyTexts) (k : Key) (p n d : Bool) → (p || n) ≡ true
-    → last_stop before k (Some (standings.table p n d)) ≡ at_row before k
-made_last before k true n d made = refl
-made_last before k false true d made = refl
-made_last before k false false d made = absurd (cc)
+pub headers_stand : (c : Child) (i : items.Item) → (out-Child c).item ≡ i
+    → by_headers (standing (item_trie i)) ≡ true → TellsLast (child_trie c) (mets.Header 1)
+headers_stand c i is made = trie_stands (child_trie c) (rw (child_item_trie c, is) made)
 
-pub made_met : (c : Child) (t : Box Table Global) → (out-Child c).item ≡ items.Table t
-    → ((out-Table t.value).passed || (out-Table t.value).named) ≡ true → TellsLast (child_trie c) (mets.Header 1)
-made_met c t is made = λ before k d.
-    let o = out-Table t.value in
-    rw (child_item_trie c, is, table_item_trie t, table_entries_trie t.value)
-    (stands_last before k d (standings.table o.passed o.named o.dotted) None
-    (by_keys (tries_of child_trie o.entries)) (made_last before k o.passed o.named o.dotted made))
+-- a row with a key more before its last one: what that key leads to
+abbrev on_by_dots : KeyTexts → Key → List Key → Data → Trie → Outcome Trie
+on_by_dots before first ks d t =
+    and_on (try_here dotted (λ m. at_row before first) t) (λ t. try_put_row (before ++ first.text ∷ []) ks d t)
 
--- a row with a key more before its last one
 try_row_on : (before : KeyTexts) (first : Key) (ks : List Key) (k : Key) (d : Data) (t : Trie)
     → try_put_row before (first ∷ (ks ++ k ∷ [])) d t
-    ≡ try_step (steps.key first.text)
-    (λ t. and_on (try_here dotted (λ m. at_row before first) t)
-    (λ t. try_put_row (before ++ first.text ∷ []) (ks ++ k ∷ []) d t)) t
+    ≡ try_step (steps.key first.text) (λ t. on_by_dots before first (ks ++ k ∷ []) d t) t
 try_row_on before first [] k d t = refl
 try_row_on before first (l ∷ ks) k d t = refl
 
@@ -126,34 +126,27 @@ module _ {gives : Child → Type 0} (before : Table) (k : List ℕ) (new : List 
       (λ x stop. step_stops (λ t. try_here (valued d) (last_stop front (key_at offset k)) t) x stop)
       (told front (key_at offset k) d)
 
-  pub row_told : (met : Met) (first : Key) (ks : List Key) (last : List ℕ) (d : Data) → first.text ≡ k
-      → TellsExtended ks last d stood met → TellsRow (first ∷ ks) last d (table_trie before) met
-  row_told met first ks last d is told = λ front offset.
-      told_on front (first ∷ ks) (key_at offset last)
-      (and_on (try_here dotted (λ m. at_row front first) stood)
-      (λ t. try_put_row (front ++ first.text ∷ []) (ks ++ key_at offset last ∷ []) d t))
+  pub row_told : (met : Met) (at : ℕ) (ks : List Key) (last : List ℕ) (d : Data) → TellsExtended ks last d stood met
+      → TellsRow (key_at at k ∷ ks) last d (table_trie before) met
+  row_told met at ks last d told = λ front offset.
+      let first = key_at at k in
+      let on : Trie → Outcome Trie = λ t. on_by_dots front first (ks ++ key_at offset last ∷ []) d t in
+      told_on front (first ∷ ks) (key_at offset last) (on stood)
       (try_put_row front (first ∷ (ks ++ key_at offset last ∷ [])) d (table_trie before)) met
-      (λ x stop. try_row_on front first ks (key_at offset last) d (table_trie before)
-      ∙ ap (λ l. try_step (steps.key l) (λ t. and_on (try_here dotted (λ m. at_row front first) t)
-      (λ t. try_put_row (front ++ first.text ∷ []) (ks ++ key_at offset last ∷ []) d t)) (table_trie before)) is
-      ∙ step_stops (λ t. and_on (try_here dotted (λ m. at_row front first) t)
-      (λ t. try_put_row (front ++ first.text ∷ []) (ks ++ key_at offset last ∷ []) d t)) x stop)
+      (λ x stop. try_row_on front first ks (key_at offset last) d (table_trie before) ∙ step_stops on x stop)
       (told front first offset)
 
 -- what a key that a period follows leads to
 pub extended_on : (ks : List Key) (last : List ℕ) (d : Data) (t u : Trie) (met : Met) → mark_here dotted t ≡ Some u
     → TellsRow ks last d u met → TellsExtended ks last d t met
 extended_on ks last d t u met is told = λ before first offset.
+    let all = ks ++ key_at offset last ∷ [] in
     let on : try_here dotted (λ m. at_row before first) t ≡ goes_on u =
     goes (try_here dotted (λ m. at_row before first) t) u (left_here dotted (λ m. at_row before first) t ∙ is) in
-    told_on before (first ∷ ks) (key_at offset last)
-    (try_put_row (before ++ first.text ∷ []) (ks ++ key_at offset last ∷ []) d u)
-    (and_on (try_here dotted (λ m. at_row before first) t)
-    (λ t. try_put_row (before ++ first.text ∷ []) (ks ++ key_at offset last ∷ []) d t)) met
-    (λ x stop. ap (λ o. and_on o (λ t. try_put_row (before ++ first.text ∷ []) (ks ++ key_at offset last ∷ []) d t)) on
-    ∙ stop)
-    (told_further before first ks (key_at offset last)
-    (try_put_row (before ++ first.text ∷ []) (ks ++ key_at offset last ∷ []) d u) met
+    told_on before (first ∷ ks) (key_at offset last) (try_put_row (before ++ first.text ∷ []) all d u)
+    (on_by_dots before first all d t) met
+    (λ x stop. ap (λ o. and_on o (λ t. try_put_row (before ++ first.text ∷ []) all d t)) on ∙ stop)
+    (told_further before first ks (key_at offset last) (try_put_row (before ++ first.text ∷ []) all d u) met
     (told (before ++ first.text ∷ []) offset))
 
 stopped_here : (before : KeyTexts) (first : Key) (t : Trie) → mark_here dotted t ≡ None
@@ -168,36 +161,33 @@ stopped_here before first (trie s v ts) none = go (standings.fits dotted s) none
     go true none = absurd (cc)
     go false none = refl
 
-pub extended_refused : (parents : List code_keys.Key) (last : List ℕ) (d : Data) (t : Trie) (left : ℕ)
-    → left ≡ length parents + 2 → mark_here dotted t ≡ None → TellsExtended (map key_of parents) last d t
-    (mets.Header left)
-extended_refused parents last d t left count none = λ before first offset.
-    let more = length-append (map key_of parents) (key_at offset last ∷ []) in
-    let lines = length-map parents key_of in record {
-      front = [];
-      there = first;
-      rest = map key_of parents ++ key_at offset last ∷ [];
-      parts = refl;
-      count = omega arith;
-      stop = ap (λ o. and_on o (λ t. try_put_row (before ++ first.text ∷ [])
-          (map key_of parents ++ key_at offset last ∷ []) d t)) (stopped_here before first t none)
-          ∙ ap (λ b. stops (at_row b first)) (sym (append-nil before));
-    }
+pub extended_refused : {now : Child} (parents : List code_keys.Key) (last : List ℕ) (child there : Child)
+    → mark_here dotted (child_trie there) ≡ None
+    → ExtendsBy parents last child there now (Err (mets.Header (length parents + 2)))
+extended_refused parents last child there none = record {
+  entered = λ d is_leaf. ap (λ m. and_then m (λ t. put_row (header_texts parents ++ last ∷ []) d t)) none;
+  named = λ d is_leaf before first offset. record {
+    front = [];
+    there = first;
+    rest = map key_of parents ++ key_at offset last ∷ [];
+    parts = refl;
+    count = omega (
+      arith,
+      length-append (map key_of parents) (key_at offset last ∷ []),
+      length-map parents key_of,
+    );
+    stop = ap (λ o. and_on o (λ t. try_put_row (before ++ first.text ∷ [])
+        (map key_of parents ++ key_at offset last ∷ []) d t)) (stopped_here before first (child_trie there) none)
+        ∙ ap (λ b. stops (at_row b first)) (sym (append-nil before));
+  };
+  origins = tt;
+}
 
 -- a table that dots extend
 abbrev pub dotted_fields : Table → Table-F items.Item Child Table
 dotted_fields t =
     let o = out-Table t in
     record { passed = o.passed; named = o.named; dotted = true; section = o.section; entries = o.entries }
-
-dotted_trie : (t : Table) → table_trie (roll-Table (dotted_fields t))
-    ≡ trie (Some (standings.table (out-Table t).passed (out-Table t).named true)) None
-    (by_keys (tries_of child_trie (out-Table t).entries))
-dotted_trie t =
-    let is : out-Table (roll-Table (dotted_fields t)) ≡ dotted_fields t = out-roll-Table (dotted_fields t) in
-    table_entries_trie (roll-Table (dotted_fields t))
-    ∙ ap (λ o. trie (Some (standings.table o.passed o.named o.dotted)) None
-    (by_keys (tries_of child_trie o.entries))) is
 
 -- dots extend a new table as they do nothing
 pub dotted_before : (is_new : Bool) (t : Trie) → (is_new ≡ true → t ≡ empty_table)
@@ -209,13 +199,23 @@ pub extended_before : (is_new : Bool) (ks : List Key) (last : List ℕ) (d : Dat
     → (is_new ≡ true → t ≡ empty_table) → TellsExtended ks last d t met
     → TellsExtended ks last d (trie_before is_new t) met
 extended_before true ks last d t met fresh told =
-    subst (λ (u : Trie). TellsExtended ks last d u met) (fresh refl) told
+    rw (fresh refl) at told
 extended_before false ks last d t met fresh told = told
 
 pub dotted_table : (c : Child) (t : Box Table Global) (e : Table) → (out-Child c).item ≡ items.Table t → e ≡ t.value
     → (out-Table e).named ≡ false → mark_here dotted (child_trie c) ≡ Some (table_trie (roll-Table (dotted_fields e)))
 dotted_table c t e is same named =
-    rw (child_item_trie c, is, table_item_trie t, ← same, table_entries_trie e, dotted_trie e, named) refl
+    rw (
+      child_item_trie c,
+      is,
+      table_item_trie t,
+      ← same,
+      table_entries_trie e,
+      table_entries_trie (roll-Table (dotted_fields e)),
+      out-roll-Table (dotted_fields e),
+      named,
+    )
+    refl
 
 pub named_refuses : (c : Child) (t : Box Table Global) → (out-Child c).item ≡ items.Table t
     → (out-Table t.value).named ≡ true → mark_here dotted (child_trie c) ≡ None
@@ -223,7 +223,8 @@ named_refuses c t is named =
     rw (child_item_trie c, is, table_item_trie t, table_entries_trie t.value, named) refl
 
 -- what is no table refuses dots
-pub other_refuses : (c : Child) → ((t : Box Table Global) → (out-Child c).item ≡ items.Table t → ⊥) → mark_here dotted (child_trie c) ≡ None
+pub other_refuses : (c : Child) → ((t : Box Table Global) → (out-Child c).item ≡ items.Table t → ⊥)
+    → mark_here dotted (child_trie c) ≡ None
 other_refuses c no_table = ap (mark_here dotted) (child_item_trie c) ∙ go (items.out-Item i) refl
   where
     i : items.Item
@@ -232,23 +233,3 @@ other_refuses c no_table = ap (mark_here dotted) (child_item_trie c) ∙ go (ite
     go : (x : Item-F items.Item Child Table) → items.out-Item i ≡ x → mark_here dotted (item_trie i) ≡ None
     go (Item-F.Table t) e = absurd (no_table t (shape i (Item-F.Table t) e ∙ search (rules, the_lemmas)))
     go x e = ap (λ i. mark_here dotted (item_trie i)) (shape i x e) ∙ search (rules, the_lemmas)
-
-pub tables_stand : (c : Child) (b : Box (Vec Table Global × Table) Global)
-    → (out-Child c).item ≡ items.Tables b → TellsLast (child_trie c) (mets.Header 1)
-tables_stand c b is = λ before k d.
-    rw (child_item_trie c, is, tables_trie b)
-    (stands_last before k d (standings.array (suc (length (map table_trie b.value.0.items)))) None
-    (by_numbers 0 (map table_trie b.value.0.items ++ table_trie b.value.1 ∷ [])) refl)
-
-pub sections_stand : (c : Child) (b : Box SectionTables Global) → (out-Child c).item ≡ items.Sections b
-    → TellsLast (child_trie c) (mets.Header 1)
-sections_stand c b is = λ before k d.
-    let tries = map (λ t. rows_trie t.1) b.value.0 in
-    rw (child_item_trie c, is, sections_trie b) (stands_last before k d (standings.array (suc (length tries))) None
-    (by_numbers 0 (tries ++ rows_trie b.value.1.1 ∷ [])) refl)
-
-pub section_stands : (c : Child) (rows : List Row) → (out-Child c).item ≡ items.Section rows
-    → TellsLast (child_trie c) (mets.Header 1)
-section_stands c rows is = λ before k d.
-    rw (child_item_trie c, is, section_item_trie rows)
-    (stands_last before k d (standings.table false true false) None (by_keys (map row_trie rows)) refl)

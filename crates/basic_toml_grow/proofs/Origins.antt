@@ -1,7 +1,6 @@
 -- Where what stands in the tree comes from: what rows and headers bring, by paths.
 pub mod OriginsSeen
 pub mod RowsPlaceOrigins
-pub mod OriginsLeft
 pub mod HeadersPlaceOrigins
 pub mod HeadersMark
 pub mod ElementsPlaceOrigins

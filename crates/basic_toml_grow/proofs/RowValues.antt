@@ -1,163 +1,167 @@
--- One row with its value, put into a table of a level.
-use Rattle.std.proofs.Common.{◌≡◌, ◌≤◌, ◌<◌, ℕ, ◌+◌, ◌-◌, inl, inr, List, []}
-use Rattle.std.proofs.Common.{◌∷◌, ◌++◌, length, map, Option, Some, None, Err, refl, sym, ap, ◌∙◌, arith, rules}
-use Rattle.std.proofs.Common.{subst, option_map}
+-- One row with its value, put into a table of a level: what it comes to, and what keeps it out.
+use Rattle.std.proofs.Common.{◌≡◌, ◌≤◌, ◌<◌, ℕ, ◌+◌, ◌-◌, inl, inr, List, [], ◌∷◌, ◌++◌, length, map, Option, None}
+use Rattle.std.proofs.Common.{Ok, Err, Result, sym, ap, ap₂, ◌∙◌, arith, subst, option_map}
 use Rattle.std.specs.Option.{option_or}
-use Rattle.basic_toml_value.specs.Data.{Data}
+use Rattle.std.proofs.lemmas.List.{length-append, length-map, map-append}
 use Rattle.basic_toml_value.specs.Nesting.{nesting_limit}
-use Rattle.basic_toml_grammar.specs.Sections.{Key, texts, Raw, row, KeyTexts}
-use Rattle.basic_toml_grammar.specs.Levels.{rows_level, value_level}
+use Rattle.basic_toml_grammar.specs.Sections.{Key, texts}
 use Rattle.basic_toml_grammar.specs.Mentions.{finished}
-use Rattle.basic_toml_grammar.specs.Trie.{Trie, put_row, put_rows}
-use Rattle.std.proofs.lemmas.List.{map-append}
-use Rattle.basic_toml_read.specs.SectionView.{key_of, header_texts, lined_of, raw_of}
-use Rattle.basic_toml_read.specs.declared.section.Key as keys
-use Rattle.basic_toml_read.specs.declared.section.Raw as raws
-use Rattle.basic_toml_read.specs.declared.section.Row as lines
-use Rattle.basic_toml_plain.specs.Tries.{leaf}
-use Rattle.basic_toml_grow.specs.declared.clash.Clash.{Clash}
-use Rattle.basic_toml_grow.specs.declared.met.Met.{Met}
-use Rattle.basic_toml_grow.specs.Rows.{AreIn, AreKeptOut, one_row, reason}
-use Rattle.basic_toml_grow.specs.Rows.{met_reason, Enters, IsFinished, IsUnfinished}
-use Rattle.basic_toml_grow.specs.declared.clash.Clash.TheVariants.{Memory, Deep}
-use Rattle.basic_toml_grow.specs.declared.met.Met.TheVariants as mets
-use Rattle.basic_toml_grammar.specs.RowClash.{value_clashes}
+use Rattle.basic_toml_grammar.specs.Trie.{put_row, put_rows}
 use Rattle.basic_toml_grammar.specs.TrieStops.{try_put_row}
-use Rattle.basic_toml_grow.specs.Clash.{Obstacle, too_deep, NamesObstacle}
+use Rattle.basic_toml_read.specs.KeyText.{key_text_bytes}
+use Rattle.basic_toml_read.specs.SectionView.{Lined, key_of, header_texts, lined_of, raw_of}
+use Rattle.basic_toml_read.specs.declared.section.Key as keys
+use Rattle.basic_toml_read.specs.declared.section.Row.{Row, out-Row}
+use Rattle.basic_toml_read.proofs.NextRow.{lined_is}
+use Rattle.basic_toml_read.proofs.RowsHaveKeys.{every_row}
+use Rattle.basic_toml_grow.specs.declared.clash.Clash.{Clash}
+use Rattle.basic_toml_grow.specs.declared.clash.Clash.TheVariants.{Memory, Deep}
+use Rattle.basic_toml_grow.specs.declared.item.Child.{Child}
+use Rattle.basic_toml_grow.specs.declared.item.Table.{Table}
+use Rattle.basic_toml_grow.specs.declared.met.Met.{Met}
+use Rattle.basic_toml_grow.specs.declared.met.Met.TheVariants as mets
+use Rattle.basic_toml_grow.specs.Clash.{Obstacle}
+use Rattle.basic_toml_grow.specs.Item.{table_trie}
 use Rattle.basic_toml_grow.specs.Obstacles.{and_behind, held_obstacle, value_obstacle, rows_obstacle}
+use Rattle.basic_toml_grow.specs.Origins.{child_origins, dotted_of, row_origins, table_within, with_more}
+use Rattle.basic_toml_grow.specs.Rows.{AreKeptOut, Enters, IsUnfinished, met_reason, one_row, reason}
+use Rattle.basic_toml_grow.specs.RowStops.{key_at, SaysMet, SaysHeld}
+use Rattle.basic_toml_grow.specs.Takes.{MakesChild, TakesRow, TakesRows}
 use Rattle.basic_toml_grow.proofs.NoObstacles.{value_free}
 use Rattle.basic_toml_grow.proofs.ObstaclesPassOn.{passed_on, behind_low, behind_high}
-use Rattle.basic_toml_grow.specs.RowStops.{key_at, TellsRow, SaysMet, SaysHeld}
-use Rattle.basic_toml_read.proofs.RowsHaveKeys.{every_row}
-use Rattle.basic_toml_grow.proofs.RowsLeft.{clash_alone, then_same}
+use Rattle.basic_toml_grow.proofs.RowsLeft.{clash_alone, origins_alone, then_same}
 
-same_key : {n m : ℕ} {t u : List ℕ} → n ≡ m → t ≡ u → key_at n t ≡ key_at m u
-same_key a b = cc
+module _ (parents : List keys.Key) (r : Row) (s level : ℕ) (old new : Table) where
+  abbrev line : Lined
+  line = lined_of r
 
--- the value of a row
-pub row_value : (r : lines.Row) → (lined_of r).value ≡ raw_of (lines.out-Row r).value
-row_value r = search (rules, raws.the_lemmas)
-
-length-keys : (ks : List keys.Key) (k : Key) → length (map key_of ks ++ k ∷ []) ≡ length ks + 1
-length-keys [] k = refl
-length-keys (r ∷ rs) k = let more = length-keys rs k in omega arith
-
-module _ (parents : List keys.Key) (r : lines.Row) (level : ℕ) (before : Trie) where
   abbrev ks : List Key
-  ks = map key_of parents ++ (lined_of r).key ∷ []
+  ks = map key_of parents ++ line.key ∷ []
 
-  abbrev v : Raw
-  v = (lined_of r).value
+  -- the level of what holds its value
+  abbrev inner : ℕ
+  inner = level + length parents
 
-  last_level : level + length parents ≡ level + length ks - 1
-  last_level = let count = length-keys parents (lined_of r).key in omega arith
+  last_level : inner ≡ level + length ks - 1
+  last_level = omega (arith, length-append (map key_of parents) (line.key ∷ []), length-map parents key_of)
+
+  -- its key, and what its value was made
+  key_is : (k : List ℕ) → k ≡ key_text_bytes (out-Row r).key → key_at (out-Row r).offset k ≡ line.key
+  key_is k is = ap (key_at (out-Row r).offset) is ∙ sym (ap (λ (l : Lined). l.key) (lined_is r))
+
+  its_value : (made : Result Child Clash) → MakesChild (raw_of (out-Row r).value) (out-Row r).start s inner made
+      → MakesChild line.value line.start s inner made
+  its_value made makes = subst (λ (l : Lined). MakesChild l.value l.start s inner made) (sym (lined_is r)) makes
 
   -- its last key is too deep
-  pub last_deep : nesting_limit < level + length parents → nesting_limit < rows_level level (one_row parents r)
-  last_deep high = let count = length-keys parents (lined_of r).key in omega arith
+  pub deep_row : nesting_limit < inner → TakesRows (one_row parents r) s level old new (Err Deep)
+  deep_row high =
+      let last = last_level in record {
+        entered = omega arith;
+        named = behind_high (level + length ks - 1) _ (omega arith);
+        origins = tt;
+      }
+
+  behind_level : inner ≤ nesting_limit
+      → rows_obstacle level (one_row parents r) (table_trie old)
+      ≡ option_or (option_map (held_obstacle ks) (value_obstacle inner line.value))
+      (and_behind (try_put_row [] ks (finished line.value) (table_trie old)) (λ _. None))
+  behind_level low =
+      behind_low (level + length ks - 1) _ (omega (arith, last_level))
+      ∙ ap (λ (l : ℕ). option_or (option_map (held_obstacle ks) (value_obstacle l line.value))
+      (and_behind (try_put_row [] ks (finished line.value) (table_trie old)) (λ _. None))) (sym last_level)
 
   -- its value is in the way
-  pub value_kept_out : (clash held : Clash) → reason held ≡ reason clash
-      → IsUnfinished (raw_of (lines.out-Row r).value) (level + length parents) clash
-      → AreKeptOut (one_row parents r) level before held
+  value_kept_out : (clash held : Clash) → reason held ≡ reason clash → IsUnfinished line.value inner clash
+      → AreKeptOut (one_row parents r) level (table_trie old) held
   value_kept_out clash Memory same u = tt
   value_kept_out Deep Deep same u =
-      let high : nesting_limit < value_level (level + length ks - 1) v =
-      subst (λ (l : ℕ). nesting_limit < value_level l v) last_level (rw (row_value r) u) in
-      omega arith
+      let high = rw last_level at u in omega arith
   value_kept_out _ Deep same u = absurd (cc)
   value_kept_out Memory _ same u = absurd (cc)
   value_kept_out Deep _ same u = absurd (cc)
-  value_kept_out _ _ same u =
-      inl (clash_alone ks (lined_of r).start v ∙ ap (λ (w : Raw). value_clashes w) (row_value r) ∙ u)
+  value_kept_out _ _ same u = inl (clash_alone ks line.start line.value ∙ u)
 
-  -- a row above the limit, and one that is not
-  pub deep_stopped : nesting_limit < level + length parents
-      → rows_obstacle level (one_row parents r) before ≡ Some too_deep
-  deep_stopped high = behind_high (level + length ks - 1) _ (omega (arith, high, last_level))
+  pub value_refused : (clash held : Clash) (last : List ℕ) → inner ≤ nesting_limit
+      → last ≡ key_text_bytes (out-Row r).key
+      → MakesChild (raw_of (out-Row r).value) (out-Row r).start s inner (Err clash) → reason held ≡ reason clash
+      → SaysHeld (map key_of parents ++ key_at (out-Row r).offset last ∷ []) clash held
+      → TakesRows (one_row parents r) s level old new (Err held)
+  value_refused clash held last low is_last makes same says =
+      let its = its_value (Err clash) makes in
+      let o = and_behind (try_put_row [] ks (finished line.value) (table_trie old)) (λ _. None) in
+      let says_so = rw (key_is last is_last) at says in
+      record {
+        entered = value_kept_out clash held same its.finished;
+        named = passed_on held (option_map (held_obstacle ks) (value_obstacle inner line.value)) _
+            (λ x is. behind_level low ∙ ap (λ (a : Option Obstacle). option_or a o) is)
+            (says_so (value_obstacle inner line.value) its.named);
+        origins = tt;
+      }
 
-  behind_level : level + length parents ≤ nesting_limit
-      → rows_obstacle level (one_row parents r) before
-      ≡ option_or (option_map (held_obstacle ks) (value_obstacle (level + length parents) v))
-      (and_behind (try_put_row [] ks (finished v) before) (λ _. None))
-  behind_level low =
-      behind_low (level + length ks - 1) _ (omega (arith, low, last_level))
-      ∙ ap (λ (l : ℕ). option_or (option_map (held_obstacle ks) (value_obstacle l v))
-      (and_behind (try_put_row [] ks (finished v) before) (λ _. None))) (sym last_level)
+  -- its value is made, and it is put, or something is met
+  same_texts : texts ks ≡ header_texts parents ++ line.key.text ∷ []
+  same_texts = map-append (λ (k : Key). k.text) (map key_of parents) (line.key ∷ [])
 
-  -- what its value meets first it meets first
-  pub value_stopped : (clash outer : Clash) → level + length parents ≤ nesting_limit → SaysHeld ks clash outer
-      → NamesObstacle (value_obstacle (level + length parents) (raw_of (lines.out-Row r).value)) clash
-      → NamesObstacle (rows_obstacle level (one_row parents r) before) outer
-  value_stopped clash outer low says named =
-      let l = level + length parents in
-      passed_on outer (option_map (held_obstacle ks) (value_obstacle l v))
-      (rows_obstacle level (one_row parents r) before)
-      (λ x is. behind_level low
-      ∙ ap (λ (o : Option Obstacle). option_or o (and_behind (try_put_row [] ks (finished v) before) (λ _. None))) is)
-      (says (value_obstacle l v)
-      (subst (λ (w : Raw). NamesObstacle (value_obstacle l w) clash) (sym (row_value r)) named))
+  its_put : (last : List ℕ) (child : Child) (put : Result (Unit {0}) Met) → last ≡ key_text_bytes (out-Row r).key
+      → TakesRow parents last child old new put → TakesRow parents line.key.text child old new put
+  its_put last child put is takes =
+      rw (ap (λ (k : Key). k.text) (key_is last is)) at takes
 
-  -- what its value comes to
-  its_value : (child : Trie) → IsFinished (raw_of (lines.out-Row r).value) (level + length parents) child
-      → IsFinished v (level + length parents) child
-  its_value child done =
-      subst (λ (w : Raw). IsFinished w (level + length parents) child) (sym (row_value r)) done
+  put_one : put_rows (one_row parents r) (table_trie old)
+      ≡ put_row (header_texts parents ++ line.key.text ∷ []) (finished line.value) (table_trie old)
+  put_one =
+      then_same (put_row (texts ks) (finished line.value) (table_trie old))
+      ∙ ap (λ ts. put_row ts (finished line.value) (table_trie old)) same_texts
 
-  -- and what is met
-  pub met_stopped : (child : Trie) (met : Met) (clash : Clash) (a b : List ℕ) (offset : ℕ)
-      → a ≡ (lined_of r).key.text → b ≡ (lined_of r).key.text → offset ≡ (lined_of r).key.offset
-      → level + length parents ≤ nesting_limit
-      → SaysMet (map key_of parents) (key_at offset b) met clash
-      → IsFinished (raw_of (lines.out-Row r).value) (level + length parents) child
-      → ((d : Data) → child ≡ leaf d → TellsRow (map key_of parents) a d before met)
-      → NamesObstacle (rows_obstacle level (one_row parents r) before) clash
-  met_stopped child met clash a b offset is_a is_b is_offset low says done tells =
-      let f = its_value child done in
-      let free = value_free (level + length parents) v (every_row r) f.apart f.fits in
-      let k : key_at offset b ≡ (lined_of r).key = same_key is_offset is_b in
-      let told = subst (λ (l : List ℕ). TellsRow (map key_of parents) l (finished v) before met) is_a
-      (tells (finished v) f.value) in
-      let o = try_put_row [] ks (finished v) before in
-      passed_on clash (and_behind o (λ _. None)) (rows_obstacle level (one_row parents r) before)
-      (λ x is. behind_level low
-      ∙ ap (λ (a : Option Obstacle). option_or (option_map (held_obstacle ks) a) (and_behind o (λ _. None))) free
-      ∙ is)
-      (subst (λ (k : Key). SaysMet (map key_of parents) k met clash) k says o (told [] (lined_of r).key.offset))
-
-  module _ (texts_are : KeyTexts) (is_texts : texts_are ≡ header_texts parents ++ (lined_of r).key.text ∷ []) where
-    same_texts : texts ks ≡ texts_are
-    same_texts = map-append (λ (k : Key). k.text) (map key_of parents) ((lined_of r).key ∷ []) ∙ sym is_texts
-
-    put_one : put_rows (one_row parents r) before ≡ put_row texts_are (finished v) before
-    put_one =
-        then_same (put_row (texts ks) (finished v) before)
-        ∙ ap (λ ts. put_row ts (finished v) before) same_texts
-
-    -- it is put
-    pub value_put : (child after : Trie)
-        → IsFinished (raw_of (lines.out-Row r).value) (level + length parents) child
-        → level + length parents ≤ nesting_limit
-        → ((d : Data) → child ≡ leaf d → put_row texts_are d before ≡ Some after)
-        → AreIn (one_row parents r) level before after
-    value_put child after done low entered =
-        let f = its_value child done in
-        let count = length-keys parents (lined_of r).key in
-        let fits : value_level (level + length ks - 1) v ≤ nesting_limit =
-        subst (λ (l : ℕ). value_level l v ≤ nesting_limit) last_level f.fits in
-        record {
-          put = put_one ∙ entered (finished v) f.value;
-          apart = clash_alone ks (lined_of r).start v ∙ f.apart;
+  pub row_put : (child : Child) (last : List ℕ) → inner ≤ nesting_limit → last ≡ key_text_bytes (out-Row r).key
+      → MakesChild (raw_of (out-Row r).value) (out-Row r).start s inner (Ok child)
+      → TakesRow parents last child old new (Ok tt) → TakesRows (one_row parents r) s level old new (Ok tt)
+  row_put child last low is_last makes takes =
+      let its = its_value (Ok child) makes in
+      let put = its_put last child (Ok tt) is_last takes in
+      let fits = rw last_level at its.finished.fits in
+      let at = last_level in
+      record {
+        entered = record {
+          put = put_one ∙ put.entered (finished line.value) its.finished.value;
+          apart = clash_alone ks line.start line.value ∙ its.finished.apart;
           fits = omega arith;
-        }
+        };
+        named = tt;
+        origins = put.origins ∙ ap (with_more (table_within old))
+            (ap (λ ts. row_origins ts (dotted_of child) (child_origins child)) (sym same_texts)
+            ∙ ap₂ (row_origins (texts ks)) its.dotted its.origins ∙ sym (origins_alone ks line.start line.value s));
+      }
 
-    -- something is met
-    pub value_met : (child after : Trie) (met : Met) (clash : Clash)
-        → reason clash ≡ met_reason met
-        → IsFinished (raw_of (lines.out-Row r).value) (level + length parents) child
-        → ((d : Data) → child ≡ leaf d → Enters (put_row texts_are d before) after (Err met))
-        → AreKeptOut (one_row parents r) level before clash
-    value_met child after met Memory same done entered = tt
-    value_met child after mets.Memory _ same done entered = absurd (cc)
-    value_met child after _ Deep same done entered = absurd (cc)
-    value_met child after _ _ same done entered = inr (put_one ∙ entered (finished v) (its_value child done).value)
+  met_kept_out : (met : Met) (clash : Clash) → reason clash ≡ met_reason met
+      → Enters (put_rows (one_row parents r) (table_trie old)) (table_trie new) (Err met)
+      → AreKeptOut (one_row parents r) level (table_trie old) clash
+  met_kept_out met Memory same out = tt
+  met_kept_out mets.Memory _ same out = absurd (cc)
+  met_kept_out _ Deep same out = absurd (cc)
+  met_kept_out _ _ same out = inr out
+
+  pub row_met : (child : Child) (met : Met) (clash : Clash) (last k : List ℕ) → inner ≤ nesting_limit
+      → last ≡ key_text_bytes (out-Row r).key → k ≡ key_text_bytes (out-Row r).key
+      → MakesChild (raw_of (out-Row r).value) (out-Row r).start s inner (Ok child)
+      → TakesRow parents last child old new (Err met) → reason clash ≡ met_reason met
+      → SaysMet (map key_of parents) (key_at (out-Row r).offset k) met clash
+      → TakesRows (one_row parents r) s level old new (Err clash)
+  row_met child met clash last k low is_last is_k makes takes same says =
+      let its = its_value (Ok child) makes in
+      let f = its.finished in
+      let put = its_put last child (Err met) is_last takes in
+      let o = try_put_row [] ks (finished line.value) (table_trie old) in
+      let free = value_free inner line.value (every_row r) f.apart f.fits in
+      let says_so = rw (key_is k is_k) at says in
+      record {
+        entered = met_kept_out met clash same (subst (λ p. Enters p (table_trie new) (Err met)) (sym put_one)
+            (put.entered (finished line.value) f.value));
+        named = passed_on clash (and_behind o (λ _. None)) _
+            (λ x is. behind_level low
+            ∙ ap (λ (a : Option Obstacle). option_or (option_map (held_obstacle ks) a) (and_behind o (λ _. None))) free
+            ∙ is)
+            (says_so o (put.named (finished line.value) f.value [] line.key.offset));
+        origins = tt;
+      }

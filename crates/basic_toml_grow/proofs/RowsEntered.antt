@@ -1,19 +1,13 @@
 -- A row put into a table: its first key, and what that key leads to.
-use Rattle.std.proofs.Common.{◌≡◌, ℕ, true, List, [], ◌∷◌, ◌++◌, ap, ◌∙◌, refl, sym, Option, Some, None, Result, Ok, Err}
-use Rattle.std.proofs.Common.{rules, subst, option_map}
-use Rattle.std.specs.Prelude.{IfOk, IfErr}
+use Rattle.std.proofs.Common.{◌≡◌, ℕ, true, List, [], ◌∷◌, ◌++◌, ap, ◌∙◌, refl, sym, Option, Some, None, Result, Ok}
+use Rattle.std.proofs.Common.{Err, subst, option_map}
 use Rattle.std.specs.List.{slice_get}
 use Rattle.basic_toml_value.specs.Data.{Data}
 use Rattle.basic_toml_grammar.specs.Sections.{KeyTexts}
 use Rattle.basic_toml_grammar.specs.Steps as steps
-use Rattle.basic_toml_grammar.specs.Marks.{dotted}
+use Rattle.basic_toml_grammar.specs.Marks.{dotted, valued}
 use Rattle.basic_toml_grammar.specs.Entering.{and_then}
-use Rattle.basic_toml_grammar.specs.Trie.{Trie, trie, nothing, standing, with_tries, mark_here, among, at_step}
-use Rattle.basic_toml_grammar.specs.Trie.{put_row}
-use Rattle.basic_toml_read.specs.KeyText.{key_text_bytes}
-use Rattle.basic_toml_read.specs.SectionView.{lined_of}
-use Rattle.basic_toml_read.specs.declared.section.Raw.{the_lemmas}
-use Rattle.basic_toml_read.specs.declared.section.Row.{Row, out-Row}
+use Rattle.basic_toml_grammar.specs.Trie.{Trie, trie, nothing, standing, with_tries, mark_here, among, at_step, put_row}
 use Rattle.basic_toml_plain.specs.Tries.{by_keys}
 use Rattle.basic_toml_grow.specs.declared.item.Child.{Child}
 use Rattle.basic_toml_grow.specs.declared.item.Table.{Table, out-Table}
@@ -23,28 +17,18 @@ use Rattle.basic_toml_grow.specs.Simple.{with_entries}
 use Rattle.basic_toml_grow.specs.Item.{child_trie, table_trie, trie_before}
 use Rattle.basic_toml_value.specs.Growth.{with_value, values_of, FindsOrAdds}
 use Rattle.basic_toml_value.specs.declared.pairs.growth.Place.{Place}
+use Rattle.basic_toml_grow.specs.Origins.{beyond, child_origins, table_within, with_more}
 use Rattle.basic_toml_grow.specs.Rows.{Enters}
+use Rattle.basic_toml_grow.specs.Takes.{TakesRow}
 use Rattle.basic_toml_grow.proofs.KeysInATrie.{tries_of, change_made, with_mapped, with_same}
-use Rattle.basic_toml_grow.proofs.ItemTries.{table_entries_trie, entries_with}
-use Rattle.basic_toml_grow.proofs.ItemTries.{with_entries_trie}
+use Rattle.basic_toml_grow.proofs.ItemTries.{table_entries_trie, entries_with, with_entries_trie}
 use Rattle.basic_toml_grow.proofs.LatestInATrie.{mapped_twice}
+use Rattle.basic_toml_grow.proofs.Origins.RowsPlaceOrigins.{origins_added}
 
 -- what is met
 pub is_met : (changed : Option Trie) (after : Trie) (met : Met) → changed ≡ None → Enters changed after (Err met)
 is_met changed after mets.Memory none = tt
-is_met changed after (mets.Header left) none = none
-is_met changed after mets.Row none = none
-
--- what holds of an answer, carried over
-pub err_on : {A E : Type 0} (P Q : E → Type 0) (result : Result A E) → ((e : E) → P e → Q e) → IfErr result P
-    → IfErr result Q
-err_on P Q (Ok x) on is = tt
-err_on P Q (Err e) on is = on e is
-
-pub ok_on : {A E : Type 0} (P Q : A → Type 0) (result : Result A E) → ((x : A) → P x → Q x) → IfOk result P
-    → IfOk result Q
-ok_on P Q (Ok x) on is = on x is
-ok_on P Q (Err e) on is = tt
+is_met changed after _ none = none
 
 -- a change within another
 pub within : (changed whole : Option Trie) (inner outer : Trie) (f : Trie → Trie) (result : Result (Unit {0}) Met)
@@ -52,10 +36,6 @@ pub within : (changed whole : Option Trie) (inner outer : Trie) (f : Trie → Tr
 within changed whole inner outer f (Ok _) same is entered = same ∙ ap (option_map f) entered ∙ ap Some (sym is)
 within changed whole inner outer f (Err mets.Memory) same is entered = tt
 within changed whole inner outer f (Err _) same is entered = same ∙ ap (option_map f) entered
-
--- the key of a row
-pub row_key : (row : Row) → (lined_of row).key.text ≡ key_text_bytes (out-Row row).key
-row_key row = search (rules, the_lemmas)
 
 -- a row with a key more before its last one
 pub row_on : (k : List ℕ) (ks : KeyTexts) (last : List ℕ) (d : Data) (t : Trie)
@@ -92,21 +72,31 @@ module _ {gives : Child → Type 0} (before : Table) (k : List ℕ) (new : List 
   pub table_after : (child : Child)
       → table_trie (with_entries before (with_value new p.position child)) ≡ changed_table (child_trie child)
   table_after child =
-      with_entries_trie before (with_value new p.position child)
-      ∙ ap (λ qs. trie (standing (table_trie before)) None (by_keys qs)) (with_mapped child_trie new p.position child)
+      rw (with_entries_trie before (with_value new p.position child), with_mapped child_trie new p.position child) refl
 
   -- where the key is new, its value is what the change gives
   pub step_added : (g : Trie → Option Trie) → p.is_new ≡ true → g nothing ≡ Some (child_trie there)
       → at_step (steps.key k) g (table_trie before) ≡ Some (table_trie (with_entries before new))
   step_added g is_new changed =
-      step_made g
-      ∙ ap (option_map changed_table) (ap (λ b. g (trie_before b (child_trie there))) is_new ∙ changed)
-      ∙ ap Some (sym (table_after there)
-      ∙ ap (λ ps. table_trie (with_entries before ps)) (with_same new p.position there stands))
+      rw (step_made g, is_new, changed) (ap Some (sym (table_after there)
+      ∙ ap (λ ps. table_trie (with_entries before ps)) (with_same new p.position there stands)))
 
   pub step_refused : (g : Trie → Option Trie) → g (trie_before p.is_new (child_trie there)) ≡ None
       → at_step (steps.key k) g (table_trie before) ≡ None
-  step_refused g refused = step_made g ∙ ap (option_map changed_table) refused
+  step_refused g refused = rw (step_made g, refused) refl
+
+-- a row of one key, which is new
+pub last_taken : (t : Table) (k : List ℕ) (c : Child) (new : List (List ℕ × Child)) (p : Place)
+    → FindsOrAdds (λ d. d ≡ c) k (out-Table t).entries new p → p.is_new ≡ true
+    → TakesRow [] k c t (with_entries t new) (Ok tt)
+last_taken t k c new p e is_new =
+    let made = e.made is_new in record {
+      entered = λ d is_leaf. step_added t k new p e e.there e.stands (λ t. mark_here (valued d) t) is_new
+          (ap Some (sym (ap child_trie made ∙ is_leaf)));
+      named = tt;
+      origins = origins_added t k e.there new p e e.stands is_new
+          ∙ ap (λ c. with_more (table_within t) (beyond (steps.key k) (child_origins c))) made;
+    }
 
 -- what stands at a position of the entries of a table
 pub stands_in : {there : Child} (t : Table) (new : List (List ℕ × Child)) (position : ℕ)

@@ -1,18 +1,18 @@
 -- The faults of rows that go on from earlier rows' values, row by row.
-use Rattle.std.proofs.Common.{◌≡◌, ◌⊎◌, inl, inr, ℕ, zero, true, false, not, List, [], ◌∷◌, ◌++◌, refl, sym, ap, ◌∙◌}
+use Rattle.std.proofs.Common.{◌≡◌, inl, inr, ℕ, true, false, not, List, [], ◌∷◌, ◌++◌, refl, sym, ap, ◌∙◌}
 use Rattle.std.proofs.Common.{Some, None, Bool, cond, subst, arith}
 use Rattle.std.specs.Prelude.{◌&&◌, Contains}
 use Rattle.std.specs.Str.{bytes_eq}
 use Rattle.std.proofs.lemmas.Slice.Eq.{bytes_eq-Decides}
 use Rattle.std.proofs.lemmas.List.Elements.{Contains-append_left, Contains-append_right, Contains-append_cases}
+use Rattle.std.proofs.lemmas.List.Elements.{Contains-get_or}
 use Rattle.basic_toml_index.proofs.DistinctKeys.{bytes_eq-same}
 use Rattle.basic_toml_grammar.specs.Sections.{Key, KeyTexts, texts, Raw, Rows, no_rows, row}
 use Rattle.basic_toml_grammar.specs.Steps.{Path, begins, properly_begins, steps_of}
 use Rattle.basic_toml_grammar.specs.Faults.{Fault}
 use Rattle.basic_toml_grammar.specs.NamedClash.{dotted_fault, extending_faults, dotted_faults, dotted_faults_in}
-use Rattle.basic_toml_grow.specs.Crossed.{no_ends}
 use Rattle.basic_toml_grow.specs.KeyTree.{Ends, Follows, value_on}
-use Rattle.basic_toml_grow.proofs.ValuesOnTheWay.{GoesOnFrom, goes_on_from, none_on}
+use Rattle.basic_toml_grow.proofs.ValuesOnTheWay.{goes_on_from, none_on}
 
 -- the faults of rows among themselves, those in their values apart
 abbrev pub faults_between : Rows → List Fault
@@ -45,36 +45,24 @@ no_faults (row keys at value rows) own inside =
 pub own_is_fault : (rows : Rows) (f : Fault) → Contains (faults_between rows) f → Contains (dotted_faults rows) f
 own_is_fault no_rows f there = there
 own_is_fault (row keys at value rows) f there =
-    go (Contains-append_cases (extending_faults at (steps_of (texts keys)) rows) (faults_between rows) f there)
-    (own_is_fault rows f)
-  where
-    front : List Fault
-    front = extending_faults at (steps_of (texts keys)) rows
-
-    go : Contains front f ⊎ Contains (faults_between rows) f
-        → (Contains (faults_between rows) f → Contains (dotted_faults rows) f)
-        → Contains ((front ++ dotted_faults_in value) ++ dotted_faults rows) f
-    go (inl here) rest = Contains-append_left (front ++ dotted_faults_in value) (dotted_faults rows) f
-        (Contains-append_left front (dotted_faults_in value) f here)
-    go (inr later) rest = Contains-append_right (front ++ dotted_faults_in value) (dotted_faults rows) f
-        (rest later)
+    let own = extending_faults at (steps_of (texts keys)) rows in
+    let front = own ++ dotted_faults_in value in
+    elim (Contains-append_cases own (faults_between rows) f there) [
+      | inl here ↦ Contains-append_left front (dotted_faults rows) f
+          (Contains-append_left own (dotted_faults_in value) f here)
+      | inr later ↦ Contains-append_right front (dotted_faults rows) f (own_is_fault rows f later)
+    ]
 
 pub value_is_fault : (rows : Rows) (f : Fault) → Contains (value_faults rows) f → Contains (dotted_faults rows) f
 value_is_fault no_rows f there = there
 value_is_fault (row keys at value rows) f there =
-    go (Contains-append_cases (dotted_faults_in value) (value_faults rows) f there)
-    (value_is_fault rows f)
-  where
-    front : List Fault
-    front = extending_faults at (steps_of (texts keys)) rows
-
-    go : Contains (dotted_faults_in value) f ⊎ Contains (value_faults rows) f
-        → (Contains (value_faults rows) f → Contains (dotted_faults rows) f)
-        → Contains ((front ++ dotted_faults_in value) ++ dotted_faults rows) f
-    go (inl here) rest = Contains-append_left (front ++ dotted_faults_in value) (dotted_faults rows) f
-        (Contains-append_right front (dotted_faults_in value) f here)
-    go (inr later) rest = Contains-append_right (front ++ dotted_faults_in value) (dotted_faults rows) f
-        (rest later)
+    let own = extending_faults at (steps_of (texts keys)) rows in
+    let front = own ++ dotted_faults_in value in
+    elim (Contains-append_cases (dotted_faults_in value) (value_faults rows) f there) [
+      | inl here ↦ Contains-append_left front (dotted_faults rows) f
+          (Contains-append_right own (dotted_faults_in value) f here)
+      | inr later ↦ Contains-append_right front (dotted_faults rows) f (value_is_fault rows f later)
+    ]
 
 -- a path properly begins another exactly where keys are left
 pub goes_on : (front : KeyTexts) (k : List ℕ) (rest : KeyTexts)
@@ -122,20 +110,11 @@ pub record Reached (all left : Rows) (ends : Ends) : Type 0 where
   pub none : ((p : KeyTexts) (s : ℕ) → ends p ≡ Some s → extending_faults s (steps_of p) left ≡ [])
       → faults_between left ≡ [] → faults_between all ≡ []
 
-pub reached_first : (rows : Rows) → Reached rows rows no_ends
-reached_first rows = record { told = λ p s there. absurd (cc); own = λ f there. there; none = λ clear none. none }
-
-pub all_followed : (all : Rows) (ends : Ends) → Reached all no_rows ends → faults_between all ≡ []
-all_followed all ends reached = reached.none (λ p s there. refl) refl
-
 extending_later : (s : ℕ) (p : Path) (f : Fault) (rows : Rows) (b : Bool) → Contains (extending_faults s p rows) f
     → Contains (cond b (dotted_fault s ∷ extending_faults s p rows) (extending_faults s p rows)) f
 extending_later s p f rows true there =
     Contains-append_right (dotted_fault s ∷ []) (extending_faults s p rows) f there
 extending_later s p f rows false there = there
-
-first_contained : (f : Fault) (fs : List Fault) → Contains (f ∷ fs) f
-first_contained f fs = Contains-append_left (f ∷ []) fs f (zero, omega arith, refl)
 
 module _ (all left : Rows) (ends after : Ends) (keys : List Key) (at : ℕ) (value : Raw) where
   abbrev path : KeyTexts
@@ -147,25 +126,17 @@ module _ (all left : Rows) (ends after : Ends) (keys : List Key) (at : ℕ) (val
   -- the next row goes on from no value
   pub row_followed : Reached all (row keys at value left) ends → Follows ends after (texts keys) at
       → Reached all left after
-  row_followed reached follows = record { told = told; own = own; none = none }
-    where
-      own : (f : Fault) → Contains (faults_between left) f → Contains (faults_between all) f
-      own f fault = reached.own f (Contains-append_right front (faults_between left) f fault)
-
-      told_by : (p : KeyTexts) (s : ℕ) → (ends p ≡ Some s) ⊎ ((p ≡ path) × (s ≡ at)) → (f : Fault)
-          → Contains (extending_faults s (steps_of p) left) f → Contains (faults_between all) f
-      told_by p s (inl before) f fault =
-          reached.told p s before f
+  row_followed reached follows = record {
+    told = λ p s there f fault. elim (follows.told p s there) [
+      | inl before ↦ reached.told p s before f
           (extending_later s (steps_of p) f left (properly_begins (steps_of p) (steps_of path)) fault)
-      told_by p s (inr now) f fault =
-          let here : Contains front f =
-          subst (λ (x : KeyTexts × ℕ). Contains (extending_faults x.1 (steps_of x.0) left) f) (cc) fault in
-          reached.own f (Contains-append_left front (faults_between left) f here)
-
-      told : (p : KeyTexts) (s : ℕ) → after p ≡ Some s → (f : Fault)
-          → Contains (extending_faults s (steps_of p) left) f → Contains (faults_between all) f
-      told p s there f fault = told_by p s (follows.told p s there) f fault
-
+      | inr now ↦ reached.own f (Contains-append_left front (faults_between left) f
+          (subst (λ (x : KeyTexts × ℕ). Contains (extending_faults x.1 (steps_of x.0) left) f) (cc) fault))
+    ];
+    own = λ f fault. reached.own f (Contains-append_right front (faults_between left) f fault);
+    none = none;
+  }
+    where
       cleared : (p : KeyTexts) (s : ℕ) (b : Bool) → properly_begins (steps_of p) (steps_of path) ≡ b
           → ends p ≡ Some s → extending_faults s (steps_of p) left ≡ []
           → cond b (dotted_fault s ∷ extending_faults s (steps_of p) left) (extending_faults s (steps_of p) left) ≡ []
@@ -185,16 +156,14 @@ module _ (all left : Rows) (ends after : Ends) (keys : List Key) (at : ℕ) (val
           (clear p s (follows.kept p s there)))
           (rw (here, empty) refl)
 
-  goes_on_by : Reached all (row keys at value left) ends → (start : ℕ) → GoesOnFrom ends (texts keys) start
-      → Contains (faults_between all) (dotted_fault start)
-  goes_on_by reached start goes =
-      reached.told goes.front start goes.there (dotted_fault start)
-      (rw begun (first_contained (dotted_fault start) (extending_faults start (steps_of goes.front) left)))
-    where
-      begun : properly_begins (steps_of goes.front) (steps_of path) ≡ true
-      begun = rw (goes.parts) (goes_on goes.front goes.k goes.rest)
-
   -- the next row goes on from a value
   pub row_goes_on : Reached all (row keys at value left) ends → (start : ℕ) → value_on ends (texts keys) ≡ Some start
       → Contains (faults_between all) (dotted_fault start)
-  row_goes_on reached start on = goes_on_by reached start (goes_on_from ends (texts keys) start on)
+  row_goes_on reached start on =
+      let goes = goes_on_from ends (texts keys) start on in
+      let begun : properly_begins (steps_of goes.front) (steps_of path) ≡ true =
+      subst (λ (ks : KeyTexts). properly_begins (steps_of goes.front) (steps_of ks) ≡ true) (sym goes.parts)
+      (goes_on goes.front goes.k goes.rest) in
+      let faults = dotted_fault start ∷ extending_faults start (steps_of goes.front) left in
+      reached.told goes.front start goes.there (dotted_fault start)
+      (rw begun (Contains-get_or faults 0 (dotted_fault start) (omega arith)))

@@ -1,6 +1,6 @@
 -- The rows of a section that stay as they were read: few and simple ones, without a parent.
-use Rattle.std.proofs.Common.{◌≡◌, ℕ, ◌+◌, ◌≤◌, Bool, true, false, List, [], ◌∷◌, length, ◌==◌, ap, ap₂, sym, ◌∙◌, arith}
-use Rattle.std.proofs.Common.{rules, Vec, Box, Global, Ok, length-append, option_map}
+use Rattle.std.proofs.Common.{◌≡◌, ℕ, ◌+◌, ◌≤◌, Bool, true, false, List, [], ◌∷◌, length, ◌==◌, ap, ap₂, sym, ◌∙◌}
+use Rattle.std.proofs.Common.{arith, rules, Vec, Box, Global, Ok, length-append, option_map}
 use Rattle.std.proofs.lemmas.List.{length-map, map-append}
 use Rattle.std.specs.Prelude.{vec_len}
 use Rattle.basic_toml_value.specs.Nesting.{nesting_limit}
@@ -63,7 +63,7 @@ back_view rows taken kept same =
     ap₂ rows_seen (search (rules, raws.the_lemmas)) (search (rules, raws.the_lemmas) ∙ same)
 
 -- At a key where nothing stands they are those of its table, or of the first table of an array.
-module _ (rows : tables.Rows) (n level : ℕ) (child now : Child) (is_new : Bool) (new : is_new ≡ true) where
+module _ {rows : tables.Rows} {n level : ℕ} {child now : Child} {is_new : Bool} (new : is_new ≡ true) where
   pub stay_at_key : {kept : List Row} → CanStay rows (level + 1) → level + 1 ≤ nesting_limit
       → kept ≡ (tables.out-Rows rows).rows.items → child_trie now ≡ item_trie (items.Section kept)
       → child_origins now ≡ item_origins (items.Section kept) 0 n
@@ -91,12 +91,12 @@ module _ (rows : tables.Rows) (n level : ℕ) (child now : Child) (is_new : Bool
       }
 
 -- In an array of such tables they are those of its next one.
-pub stay_in_next : (rows : tables.Rows) (n level : ℕ) (child : Child) (is_new : Bool)
+pub stay_in_next : {rows : tables.Rows} {n level : ℕ} {child : Child} {is_new : Bool}
     (old after : Box SectionTables Global) → CanStay rows (level + 2) → level + 2 ≤ nesting_limit → is_new ≡ false
     → (out-Child child).item ≡ items.Sections old
     → after.value ≡ with_table old.value (n, (tables.out-Rows rows).rows.items)
     → TakesHeaderAtKey true (rows_view rows) [] level n is_new child (holding child (items.Sections after)) (Ok tt)
-stay_in_next rows n level child is_new old after stay low here was more =
+stay_in_next {rows} {n} {level} {child} {is_new} old after stay low here was more =
     let own = (tables.out-Rows rows).rows.items in
     let before = tables_in old.value in
     let at = (out-Child child).start in

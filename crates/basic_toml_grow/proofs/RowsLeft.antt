@@ -1,7 +1,10 @@
--- Rows that are left, and what all rows come to.
-use Rattle.std.proofs.Common.{◌≡◌, ◌≤◌, ◌<◌, ℕ, Bool, true, false, ◌||◌, ◌&&◌, inl, inr, List, [], Option, Some, None}
-use Rattle.std.proofs.Common.{refl, sym, ap, ◌∙◌, arith, length, subst, option_map, ◌+◌, ◌-◌}
+-- Rows that are left, and what all rows come to: what is put, what is met first, and where what they bring comes from.
+use Rattle.std.proofs.Common.{◌≡◌, ◌≤◌, ◌<◌, ℕ, false, true, ◌||◌, ◌&&◌, inl, inr, List, [], Option, Some, None, Ok}
+use Rattle.std.proofs.Common.{Err, Result, refl, sym, ap, ◌∙◌, arith, length, option_map, ◌+◌, ◌-◌}
 use Rattle.std.specs.Option.{option_or}
+use Rattle.std.proofs.Math.Bool.{or-false}
+use Rattle.std.proofs.Math.Path.{fun_ext}
+use Rattle.std.proofs.lemmas.Bool.{and_parts, or_left, or_parts, or_right}
 use Rattle.basic_toml_read.specs.declared.section.Key as keys
 use Rattle.basic_toml_read.specs.declared.section.Row as lines
 use Rattle.basic_toml_read.specs.declared.section.Rows as tables
@@ -13,54 +16,88 @@ use Rattle.basic_toml_grammar.specs.RowClash.{rows_clash, value_clashes, any_ove
 use Rattle.basic_toml_grammar.specs.Levels.{rows_level}
 use Rattle.basic_toml_grammar.specs.Entering.{and_then, rows_keyed, keyed_within, has_key, value_keyed}
 use Rattle.basic_toml_grammar.specs.Mentions.{finished}
+use Rattle.basic_toml_grammar.specs.Stops.{Outcome, goes_on, stops}
 use Rattle.basic_toml_grammar.specs.Trie.{Trie, put_row, put_rows}
+use Rattle.basic_toml_grammar.specs.TrieStops.{try_put_row}
 use Rattle.basic_toml_grammar.proofs.Tries.RowsThatOverlapAreRefused.{values_clash, put_apart}
 use Rattle.basic_toml_plain.proofs.WhatIsLeft.{nothing_left}
-use Rattle.basic_toml_grow.specs.Rows.{AreIn, AreKeptOut}
-use Rattle.basic_toml_grammar.specs.Stops.{Outcome, goes_on, stops}
-use Rattle.basic_toml_grammar.specs.TrieStops.{try_put_row}
-use Rattle.basic_toml_grow.specs.Clash.{Obstacle, NamesObstacle}
+use Rattle.basic_toml_grow.specs.Clash.{Obstacle}
 use Rattle.basic_toml_grow.specs.declared.clash.Clash.{Clash}
 use Rattle.basic_toml_grow.specs.declared.clash.Clash.TheVariants.{Memory, Deep}
+use Rattle.basic_toml_grow.specs.declared.item.Table.{Table}
+use Rattle.basic_toml_grow.specs.Item.{table_trie}
 use Rattle.basic_toml_grow.specs.Obstacles.{above, and_behind, held_obstacle, value_obstacle, rows_obstacle}
+use Rattle.basic_toml_grow.specs.Origins.{Origin, Origins, Within, no_origins, or_else, row_origins, rows_origins}
+use Rattle.basic_toml_grow.specs.Origins.{table_origin, table_within, value_origins, with_more}
+use Rattle.basic_toml_grow.specs.Rows.{AreKeptOut, EntersRows}
+use Rattle.basic_toml_grow.specs.Takes.{TakesRows}
 use Rattle.basic_toml_grow.proofs.NoObstacles.{row_behind, value_free}
 use Rattle.basic_toml_grow.proofs.ObstaclesPassOn.{passed_on}
+use Rattle.basic_toml_grow.proofs.Origins.OriginsSeen.{or_none}
+use Rattle.basic_toml_grow.proofs.Origins.RowsPlaceOrigins.{within}
 
 -- Putting the rows that are left into the table as it is, is putting all rows into the table as it was.
-pub record AreLeft (whole : Rows) (level : ℕ) (before : Trie) (left : Rows) (now : Trie) : Type 0 where
-  pub put : put_rows whole before ≡ put_rows left now
-  pub met : rows_obstacle level whole before ≡ rows_obstacle level left now
+pub record AreLeft (s level : ℕ) (whole : Rows) (before : Table) (left : Rows) (now : Table) : Type 0 where
+  pub put : put_rows whole (table_trie before) ≡ put_rows left (table_trie now)
+  pub met : rows_obstacle level whole (table_trie before) ≡ rows_obstacle level left (table_trie now)
+  pub come : with_more (table_within before) (rows_origins s whole) ≡ with_more (table_within now) (rows_origins s left)
   pub clash : rows_clash left ≡ true → rows_clash whole ≡ true
   pub values : values_clash whole ≡ values_clash left
   pub fits : rows_level level left ≤ nesting_limit → rows_level level whole ≤ nesting_limit
   pub deep : nesting_limit < rows_level level left → nesting_limit < rows_level level whole
 
-pub both : (a b : Bool) → (a && b) ≡ true → (a ≡ true) × (b ≡ true)
-both true b e = (refl, e)
-both false b e = absurd (cc)
-
 -- at first all rows are left
-pub all_left : (rows : Rows) (level : ℕ) (before : Trie) → AreLeft rows level before rows before
-all_left rows level before = record {
+pub all_left : (s level : ℕ) (rows : Rows) (t : Table) → AreLeft s level rows t rows t
+all_left s level rows t = record {
   put = refl;
   met = refl;
+  come = refl;
   clash = λ c. c;
   values = refl;
   fits = λ f. f;
   deep = λ d. d;
 }
 
--- at last none
-pub none_left : (rows : Rows) (level : ℕ) (before now : Trie) → rows_keyed rows ≡ true
-    → AreLeft rows level before no_rows now → AreIn rows level before now
-none_left rows level before now keyed left =
-    record {
-      put = left.put;
-      apart = put_apart rows before now keyed left.values left.put;
-      fits = left.fits (omega arith);
-    }
+-- the values of rows that do not clash do not clash
+values_apart : (rows : Rows) → rows_clash rows ≡ false → values_clash rows ≡ false
+values_apart no_rows apart = refl
+values_apart (row ks at v rows) apart =
+    let parts = or_parts (any_overlaps (steps_of (texts ks)) rows || value_clashes v) (rows_clash rows) apart in
+    let own = or_parts (any_overlaps (steps_of (texts ks)) rows) (value_clashes v) parts.0 in
+    rw own.1 (values_apart rows parts.1)
+
+-- what the rows that are left come to, all come to
+pub left_taken : {s level : ℕ} {whole left : Rows} {before now : Table} (after : Table) (r : Result (Unit {0}) Clash)
+    → AreLeft s level whole before left now → rows_keyed whole ≡ true → TakesRows left s level now after r
+    → TakesRows whole s level before after r
+left_taken {s} {level} {whole} {left} {before} {now} after r are keyed takes =
+    record { entered = go r takes.entered; named = rw are.met takes.named; origins = rw are.come takes.origins }
+  where
+    go : (r : Result (Unit {0}) Clash) → EntersRows left level (table_trie now) (table_trie after) r
+        → EntersRows whole level (table_trie before) (table_trie after) r
+    go (Ok x) entered =
+        let put = are.put ∙ entered.put in record {
+          put = put;
+          apart = put_apart whole (table_trie before) (table_trie after) keyed
+              (are.values ∙ values_apart left entered.apart) put;
+          fits = are.fits entered.fits;
+        }
+    go (Err Memory) kept = tt
+    go (Err Deep) kept = are.deep kept
+    go (Err _) (inl c) = inl (are.clash c)
+    go (Err _) (inr none) = inr (are.put ∙ none)
 
 -- where no row is, nothing is put
+else_none : (f : Origins) → or_else f no_origins ≡ f
+else_none f = fun_ext (λ p. or_none (f p))
+
+pub none_taken : (s level : ℕ) (t : Table) → TakesRows no_rows s level t t (Ok tt)
+none_taken s level t = record {
+  entered = record { put = refl; apart = refl; fits = omega arith };
+  named = tt;
+  origins = let w = table_within t in sym (ap (within w.made w.section) (else_none w.below));
+}
+
 pub none_seen : (rows : tables.Rows) → length (tables.out-Rows rows).rows.items ≡ 0 → rows_view rows ≡ no_rows
 none_seen rows none =
     ap (λ (rs : List lines.Row). rows_seen (tables.out-Rows rows).parents.items rs)
@@ -71,106 +108,85 @@ pub no_parents_seen : (rows : tables.Rows) → (tables.out-Rows rows).parents.it
     → rows_view rows ≡ rows_seen [] (tables.out-Rows rows).rows.items
 no_parents_seen rows none = ap (λ (ks : List keys.Key). rows_seen ks (tables.out-Rows rows).rows.items) none
 
-pub none_put : (rows : Rows) (level : ℕ) (t : Trie) → rows ≡ no_rows → AreIn rows level t t
-none_put rows level t none =
-    subst (λ (rows : Rows). AreIn rows level t t) (sym none)
-    (none_left no_rows level t t refl (all_left no_rows level t))
-
--- what one row alone comes to, it comes to before others
-clash_more : (ks : List Key) (at : ℕ) (v : Raw) (rows : Rows) → value_clashes v ≡ true
-    → rows_clash (row ks at v rows) ≡ true
-clash_more ks at v rows clash = go (any_overlaps (steps_of (texts ks)) rows) clash
-  where
-    go : (b : Bool) → value_clashes v ≡ true → ((b || value_clashes v) || rows_clash rows) ≡ true
-    go true clash = refl
-    go false clash = rw clash refl
-
-clash_after : (ks : List Key) (at : ℕ) (v : Raw) (rows : Rows) → rows_clash rows ≡ true
-    → rows_clash (row ks at v rows) ≡ true
-clash_after ks at v rows clash =
-    ap (λ b. (any_overlaps (steps_of (texts ks)) rows || value_clashes v) || b) clash
-    ∙ last (any_overlaps (steps_of (texts ks)) rows || value_clashes v)
-  where
-    last : (b : Bool) → (b || true) ≡ true
-    last true = refl
-    last false = refl
-
-pub clash_alone : (ks : List Key) (at : ℕ) (v : Raw) → rows_clash (row ks at v no_rows) ≡ value_clashes v
-clash_alone ks at v = go (value_clashes v)
-  where
-    go : (b : Bool) → ((false || b) || false) ≡ b
-    go true = refl
-    go false = refl
-
--- levels of a row alone, and before others
-level_high : (level : ℕ) (ks : List Key) (at : ℕ) (v : Raw) (rows : Rows)
-    → nesting_limit < rows_level level (row ks at v no_rows) → nesting_limit < rows_level level (row ks at v rows)
-level_high level ks at v rows high = omega arith
-
-level_high_after : (level : ℕ) (ks : List Key) (at : ℕ) (v : Raw) (rows : Rows)
-    → nesting_limit < rows_level level rows → nesting_limit < rows_level level (row ks at v rows)
-level_high_after level ks at v rows high = omega arith
-
-level_low : (level : ℕ) (ks : List Key) (at : ℕ) (v : Raw) (rows : Rows)
-    → rows_level level (row ks at v no_rows) ≤ nesting_limit → rows_level level rows ≤ nesting_limit
-    → rows_level level (row ks at v rows) ≤ nesting_limit
-level_low level ks at v rows one others = omega arith
-
 pub then_same : {A : Type 0} (o : Option A) → and_then o (λ x. Some x) ≡ o
 then_same None = refl
 then_same (Some x) = refl
 
--- what a row alone meets first, it meets first before others
-one_first : (level : ℕ) (ks : List Key) (at : ℕ) (v : Raw) (rows : Rows) (t : Trie) (x : Obstacle)
-    → rows_obstacle level (row ks at v no_rows) t ≡ Some x → rows_obstacle level (row ks at v rows) t ≡ Some x
-one_first level ks at v rows t x is =
-    let last = level + length ks - 1 in
-    go (above last) (option_map (held_obstacle ks) (value_obstacle last v)) (try_put_row [] ks (finished v) t) is
-  where
-    go : (a b : Option Obstacle) (o : Outcome Trie)
-        → option_or a (option_or b (and_behind o (λ t. None))) ≡ Some x
-        → option_or a (option_or b (and_behind o (λ t. rows_obstacle level rows t))) ≡ Some x
-    go (Some y) b o is = is
-    go None (Some y) o is = is
-    go None None (stops y) is = is
-    go None None (goes_on u) is = absurd (cc)
+option_assoc : (a b c : Option Origin) → option_or (option_or a b) c ≡ option_or a (option_or b c)
+option_assoc None b c = refl
+option_assoc (Some o) b c = refl
 
-module _ (whole : Rows) (level : ℕ) (before : Trie) (ks : List Key) (at : ℕ) (v : Raw) (rest : Rows) (now : Trie)
-    (left : AreLeft whole level before (row ks at v rest) now) where
-  value_has_keys : keyed_within (row ks at v no_rows) ≡ true → value_keyed v ≡ true
-  value_has_keys keyed = (both (has_key ks) (value_keyed v) (both (has_key ks && value_keyed v) true keyed).0).1
+more_more : (w : Within) (f g : Origins) → with_more (with_more w f) g ≡ with_more w (or_else f g)
+more_more w f g = ap (within w.made w.section) (fun_ext (λ p. option_assoc (w.below p) (f p) (g p)))
 
-  -- after a row that is in the table the rows after it are left
-  pub row_entered : (after : Trie) → keyed_within (row ks at v no_rows) ≡ true
-      → AreIn (row ks at v no_rows) level now after → AreLeft whole level before rest after
-  row_entered after keyed entered =
-      let is_put : put_row (texts ks) (finished v) now ≡ Some after =
-      sym (then_same (put_row (texts ks) (finished v) now)) ∙ entered.put in
-      let free : value_clashes v ≡ false = sym (clash_alone ks at v) ∙ entered.apart in
-      let fits = entered.fits in
-      let value : value_obstacle (level + length ks - 1) v ≡ None =
-      value_free (level + length ks - 1) v (value_has_keys keyed) free (omega (arith, fits)) in
-      record {
-        met = left.met ∙ row_behind level ks at v rest now after (omega (arith, fits)) value is_put;
-        put = left.put ∙ ap (λ o. and_then o (λ t. put_rows rest t)) is_put;
-        clash = λ c. left.clash (clash_after ks at v rest c);
-        values = left.values ∙ ap (λ b. b || values_clash rest) free;
-        fits = λ f. left.fits (level_low level ks at v rest entered.fits f);
-        deep = λ d. left.deep (level_high_after level ks at v rest d);
-      }
+-- a row alone, and what it brings
+module _ (ks : List Key) (at : ℕ) (v : Raw) where
+  abbrev alone : Rows
+  alone = row ks at v no_rows
+
+  pub clash_alone : rows_clash alone ≡ value_clashes v
+  clash_alone = or-false (value_clashes v)
+
+  pub origins_alone : (s : ℕ)
+      → rows_origins s alone ≡ row_origins (texts ks) (table_origin false at s) (value_origins s at v)
+  origins_alone s = else_none (row_origins (texts ks) (table_origin false at s) (value_origins s at v))
+
+-- and with others after it
+module _ (s level : ℕ) (ks : List Key) (at : ℕ) (v : Raw) (rest : Rows) (now after : Table) where
+  -- what it meets first, it meets first before others
+  one_first : (x : Obstacle) → rows_obstacle level (alone ks at v) (table_trie now) ≡ Some x
+      → rows_obstacle level (row ks at v rest) (table_trie now) ≡ Some x
+  one_first x is =
+      let last = level + length ks - 1 in
+      go (above last) (option_map (held_obstacle ks) (value_obstacle last v))
+      (try_put_row [] ks (finished v) (table_trie now)) is
+    where
+      go : (a b : Option Obstacle) (o : Outcome Trie)
+          → option_or a (option_or b (and_behind o (λ t. None))) ≡ Some x
+          → option_or a (option_or b (and_behind o (λ t. rows_obstacle level rest t))) ≡ Some x
+      go (Some y) b o is = is
+      go None (Some y) o is = is
+      go None None (stops y) is = is
+      go None None (goes_on u) is = absurd (cc)
 
   -- a row that is kept out keeps all rows out
-  pub row_kept_out : (clash : Clash) → AreKeptOut (row ks at v no_rows) level now clash
-      → AreKeptOut whole level before clash
-  row_kept_out Memory kept = tt
-  row_kept_out Deep kept = left.deep (level_high level ks at v rest kept)
-  row_kept_out _ (inl c) = inl (left.clash (clash_more ks at v rest (sym (clash_alone ks at v) ∙ c)))
-  row_kept_out _ (inr none) = inr (left.put
-      ∙ ap (λ o. and_then o (λ t. put_rows rest t)) (sym (then_same (put_row (texts ks) (finished v) now)) ∙ none))
+  pub row_refused : (clash : Clash) → TakesRows (alone ks at v) s level now after (Err clash)
+      → TakesRows (row ks at v rest) s level now after (Err clash)
+  row_refused clash one = record {
+    entered = go clash one.entered;
+    named = passed_on clash (rows_obstacle level (alone ks at v) (table_trie now)) _ one_first one.named;
+    origins = tt;
+  }
+    where
+      go : (clash : Clash) → AreKeptOut (alone ks at v) level (table_trie now) clash
+          → AreKeptOut (row ks at v rest) level (table_trie now) clash
+      go Memory kept = tt
+      go Deep kept = omega arith
+      go _ (inl c) = inl (or_left _ _ (or_right (any_overlaps (steps_of (texts ks)) rest) (value_clashes v)
+          (sym (clash_alone ks at v) ∙ c)))
+      go _ (inr none) = inr (ap (λ o. and_then o (λ t. put_rows rest t))
+          (sym (then_same (put_row (texts ks) (finished v) (table_trie now))) ∙ none))
 
-  -- and what it meets first all rows meet first
-  pub row_stopped : (clash : Clash) → NamesObstacle (rows_obstacle level (row ks at v no_rows) now) clash
-      → NamesObstacle (rows_obstacle level whole before) clash
-  row_stopped clash named =
-      passed_on clash (rows_obstacle level (row ks at v no_rows) now) (rows_obstacle level whole before)
-      (λ x is. left.met ∙ one_first level ks at v rest now x is) named
+  -- after a row that is in the table the rows after it are left
+  pub row_taken : {whole : Rows} {before : Table} → AreLeft s level whole before (row ks at v rest) now
+      → keyed_within (alone ks at v) ≡ true → TakesRows (alone ks at v) s level now after (Ok tt)
+      → AreLeft s level whole before rest after
+  row_taken left keyed one =
+      let last = level + length ks - 1 in
+      let is_put = sym (then_same (put_row (texts ks) (finished v) (table_trie now))) ∙ one.entered.put in
+      let free : value_clashes v ≡ false = sym (clash_alone ks at v) ∙ one.entered.apart in
+      let fits = one.entered.fits in
+      let key = (and_parts (has_key ks && value_keyed v) true keyed).0 in
+      let value = value_free last v (and_parts (has_key ks) (value_keyed v) key).1 free (omega (arith, fits)) in
+      record {
+        put = left.put ∙ ap (λ o. and_then o (λ t. put_rows rest t)) is_put;
+        met = left.met ∙ row_behind level ks at v rest (table_trie now) (table_trie after) (omega (arith, fits)) value
+            is_put;
+        come = left.come ∙ sym (more_more (table_within now) _ (rows_origins s rest))
+            ∙ ap (λ w. with_more w (rows_origins s rest))
+            (sym (one.origins ∙ ap (with_more (table_within now)) (origins_alone ks at v s)));
+        clash = λ c. left.clash (or_right _ _ c);
+        values = left.values ∙ ap (λ b. b || values_clash rest) free;
+        fits = λ f. left.fits (omega (arith, fits, f));
+        deep = λ d. left.deep (omega (arith, d));
+      }

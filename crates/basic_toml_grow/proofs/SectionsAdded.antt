@@ -1,6 +1,6 @@
 -- A table that is added to an array of tables, whose rows stay as they were read.
 use Rattle.std.proofs.Common.{◌≡◌, ◌≤◌, ◌+◌, ℕ, true, List, [], ◌∷◌, ◌++◌, map, length, refl, ap, sym, ◌∙◌}
-use Rattle.std.proofs.Common.{option_map, Box, Global, None, Some}
+use Rattle.std.proofs.Common.{option_map, Box, Global, None, Ok}
 use Rattle.std.specs.Option.{option_or}
 use Rattle.std.proofs.lemmas.Bool.{false≢true}
 use Rattle.std.proofs.lemmas.List.{append-nil, length-map}
@@ -17,7 +17,7 @@ use Rattle.basic_toml_grow.specs.Headers.{IsIn}
 use Rattle.basic_toml_grow.specs.Origins.{Origins, along, array_origin, at_numbers, entry, item_origins, rows_origins}
 use Rattle.basic_toml_grow.specs.Origins.{section_origins}
 use Rattle.basic_toml_grow.specs.Ways.{GrowsAlong, MarksWay}
-use Rattle.basic_toml_grow.proofs.HeadersInATrie.{array_of, fresh, is_in}
+use Rattle.basic_toml_grow.proofs.HeadersInATrie.{array_of, entered_on, fresh}
 use Rattle.basic_toml_grow.proofs.SectionsEntered.{section_entered, section_marks, seen}
 use Rattle.basic_toml_grow.proofs.TablesOpened.{section_item_trie, sections_trie}
 use Rattle.basic_toml_grow.proofs.Origins.OriginsSeen.{sections_seen}
@@ -33,11 +33,9 @@ module _ (s level : ℕ) (rows : List Row) (b : Box SectionTables Global) (befor
       → put_element (seen s rows) t ≡ option_map (λ u. array_of (tries before) u) (put_table (seen s rows) fresh)
       → IsIn (put_element (seen s rows) t) (seen s rows) (level + 2) (item_trie (items.Sections b))
   added_in low few t put =
-      let alone = section_entered s rows (level + 2) low few in
-      is_in (put_table (seen s rows) nothing) (put_element (seen s rows) t) (seen s rows) (level + 2) (level + 2) _ _
-      (put ∙ ap (option_map (λ u. array_of (tries before) u)) (alone.gives ∙ ap Some (section_item_trie rows))
-      ∙ ap Some (sym (sections_trie b ∙ ap (λ (ts : SectionTables). array_of (tries ts.0) (rows_trie ts.1.1)) is)))
-      refl alone
+      entered_on (put_table (seen s rows) nothing) _ (seen s rows) (λ u. array_of (tries before) u) (Ok tt) put refl
+      (sections_trie b ∙ ap (λ (ts : SectionTables). array_of (tries ts.0) (rows_trie ts.1.1)) is
+      ∙ ap (array_of (tries before)) (sym (section_item_trie rows))) (section_entered s rows (level + 2) low few)
 
   -- what its rows bring, and what headers made
   module _ (at z : ℕ) where
@@ -57,12 +55,8 @@ module _ (s level : ℕ) (rows : List Row) (b : Box SectionTables Global) (befor
         let counted = length-map before (section_origins at) in
         let grows = numbers_grow others None (section_origins at (s, rows)) (rows_origins s (seen s rows)) []
         (λ r q not. refl) (r ∷ p) (ap (λ n. begins (r ∷ p) (number n ∷ [])) counted ∙ not) in
-        ap (λ f. f (r ∷ p)) now_is ∙ grows
-        ∙ ap (λ os. option_or (at_numbers os (r ∷ p))
-        (along (number (length others) ∷ []) (rows_origins s (seen s rows)) (r ∷ p))) (append-nil others)
-        ∙ ap (λ o. option_or o (along (number (length others) ∷ []) (rows_origins s (seen s rows)) (r ∷ p)))
-        (sym (same r p))
-        ∙ ap (λ n. option_or (came (r ∷ p)) (along (number n ∷ []) (rows_origins s (seen s rows)) (r ∷ p))) counted
+        rw (now_is, same r p, ← counted) (grows ∙ ap (λ os. option_or (at_numbers os (r ∷ p))
+        (along (number (length others) ∷ []) (rows_origins s (seen s rows)) (r ∷ p))) (append-nil others))
 
     pub added_marks : MarksWay s (number (length before) ∷ []) (item_origins (items.Sections b) at z)
     added_marks = rw (now_is, ← length-map before (section_origins at))

@@ -1,26 +1,21 @@
 -- The rows of a section, kept as they were read in the table of its header, which is new.
-use Rattle.std.proofs.Common.{◌≡◌, ◌≤◌, ℕ, true, List, [], ◌∷◌, refl, ap, sym, ◌∙◌, subst, rules}
+use Rattle.std.proofs.Common.{◌≡◌, ◌≤◌, ℕ, true, List, [], ◌∷◌, Ok, refl, ap, sym}
 use Rattle.std.proofs.lemmas.Bool.{false≢true}
 use Rattle.basic_toml_value.specs.Nesting.{nesting_limit}
 use Rattle.basic_toml_grammar.specs.Sections.{Rows}
-use Rattle.basic_toml_grammar.specs.Trie.{Trie, nothing, put_rows, put_table}
+use Rattle.basic_toml_grammar.specs.Trie.{nothing, put_rows, put_table}
 use Rattle.basic_toml_read.specs.declared.section.Row.{Row}
 use Rattle.basic_toml_read.specs.SectionView.{rows_seen}
 use Rattle.basic_toml_plain.specs.Plain.{are_few_simple}
 use Rattle.basic_toml_plain.proofs.PlainValues.{few_lower}
-use Rattle.basic_toml_plain.proofs.SimpleKeys.{few_are_simple}
-use Rattle.basic_toml_grow.specs.declared.item.Item.{the_lemmas}
 use Rattle.basic_toml_grow.specs.declared.item.Item as items
-use Rattle.basic_toml_grow.specs.declared.item.Table.{out-Table}
 use Rattle.basic_toml_grow.specs.Item.{item_trie, table_trie}
 use Rattle.basic_toml_grow.specs.Headers.{IsIn}
 use Rattle.basic_toml_grow.specs.Origins.{item_origins, no_origins, rows_origins, section_origins}
-use Rattle.basic_toml_grow.specs.Simple.{entries_of, section_table, with_entries}
 use Rattle.basic_toml_grow.specs.Ways.{GrowsAlong, MarksWay}
-use Rattle.basic_toml_grow.proofs.HeadersInATrie as headers
+use Rattle.basic_toml_grow.proofs.HeadersInATrie.{rows_entered}
 use Rattle.basic_toml_grow.proofs.KeysInATrie.{tries_of}
-use Rattle.basic_toml_grow.proofs.SectionTables.{bare, section_table_trie, section_trie}
-use Rattle.basic_toml_grow.proofs.SimpleRows.{rows_in}
+use Rattle.basic_toml_grow.proofs.SectionTables.{bare, section_table_trie, section_taken, section_trie}
 use Rattle.basic_toml_grow.proofs.Origins.OriginsSeen.{section_item_seen}
 
 module _ (s : ℕ) (rows : List Row) where
@@ -32,19 +27,9 @@ module _ (s : ℕ) (rows : List Row) where
       → IsIn (put_table seen nothing) seen level (item_trie (items.Section rows))
   unfolding tries_of
   section_entered level low are =
-      subst (λ (t : Trie). IsIn (put_table seen nothing) seen level t) (sym same)
-      (headers.rows_in (put_table seen nothing) seen level level (table_trie (bare s)) _
-      (ap (put_rows seen) (sym (section_table_trie s []))) refl low
-      (rows_in s level low (bare s) none rows (few_are_simple level rows are)))
-    where
-      none : (out-Table (bare s)).entries ≡ []
-      none = search (rules, the_lemmas)
-
-      full : section_table s rows ≡ with_entries (bare s) (entries_of s rows)
-      full = search (rules, the_lemmas)
-
-      same : item_trie (items.Section rows) ≡ table_trie (with_entries (bare s) (entries_of s rows))
-      same = section_trie s rows (few_lower rows level are) ∙ ap table_trie full
+      rw (section_trie s rows (few_lower rows level are))
+      (rows_entered (put_table seen nothing) seen level level (table_trie (bare s)) _ (Ok tt)
+      (ap (put_rows seen) (sym (section_table_trie s []))) refl low (section_taken s rows level low are).entered)
 
   -- what its rows bring, and what headers made
   pub section_grows : (at : ℕ)

@@ -1,8 +1,9 @@
 -- The tables of an array that stand as they were read, and those with the entries that they stand for.
-use Rattle.std.proofs.Common.{◌≡◌, ℕ, true, List, [], ◌∷◌, ◌++◌, map, refl, ap, ap₂, sym, ◌∙◌, Vec, Box, Global}
+use Rattle.std.proofs.Common.{◌≡◌, ℕ, true, List, [], ◌∷◌, map, refl, ap, ap₂, sym, ◌∙◌, Vec, Box, Global}
 use Rattle.std.specs.List.{list_all}
 use Rattle.std.proofs.lemmas.Bool.{and_parts}
-use Rattle.std.proofs.lemmas.List.{map-append}
+use Rattle.std.proofs.lemmas.List.{map_push}
+use Rattle.std.proofs.lemmas.Simd.{map-map}
 use Rattle.std.proofs.lemmas.List.Folds.{list_all-append}
 use Rattle.basic_toml_plain.specs.Tries.{rows_trie}
 use Rattle.basic_toml_plain.specs.Plain.{are_few_simple}
@@ -11,8 +12,7 @@ use Rattle.basic_toml_grow.specs.declared.item.Item.{Tables}
 use Rattle.basic_toml_grow.specs.declared.item.Item as items
 use Rattle.basic_toml_grow.specs.declared.item.Table.{Table}
 use Rattle.basic_toml_grow.specs.Item.{item_trie, table_trie}
-use Rattle.basic_toml_grow.specs.Origins.{array_origin, at_numbers, entry, item_origins, of_table}
-use Rattle.basic_toml_grow.specs.Origins.{section_origins, table_within}
+use Rattle.basic_toml_grow.specs.Origins.{item_origins, of_table, section_origins, table_within}
 use Rattle.basic_toml_grow.specs.Simple.{table_of}
 use Rattle.basic_toml_grow.proofs.HeadersInATrie.{array_of}
 use Rattle.basic_toml_grow.proofs.SectionTables.{section_trie, section_within}
@@ -30,13 +30,11 @@ pub origins_of : (t : SectionTable) → few t → (at s : ℕ)
     → of_table at s (table_within (table_of t)) ≡ section_origins at t
 origins_of t are at s = ap (of_table at s) (section_within t.0 t.1 are)
 
-mapped_twice : {A B C : Type 0} (f : B → C) (g : A → B) (xs : List A) → map f (map g xs) ≡ map (λ x. f (g x)) xs
-mapped_twice f g [] = refl
-mapped_twice f g (x ∷ xs) = ap (λ ys. f (g x) ∷ ys) (mapped_twice f g xs)
-
 -- and all
-module _ {A : Type 0} (f : Table → A) (g : SectionTable → A) (same : (t : SectionTable) → few t → f (table_of t) ≡ g t) where
-  all_of : (ts : List SectionTable) → list_all (λ t. are_few_simple 0 t.1) ts ≡ true → map f (map table_of ts) ≡ map g ts
+module _ {A : Type 0} (f : Table → A) (g : SectionTable → A)
+    (same : (t : SectionTable) → few t → f (table_of t) ≡ g t) where
+  all_of : (ts : List SectionTable) → list_all (λ t. are_few_simple 0 t.1) ts ≡ true
+      → map f (map table_of ts) ≡ map g ts
   all_of [] are = refl
   all_of (t ∷ ts) are =
       let parts = and_parts (are_few_simple 0 t.1) (list_all (λ t. are_few_simple 0 t.1) ts) are in
@@ -47,8 +45,8 @@ module _ (b : Box SectionTables Global) (made : Box (Vec Table Global × Table) 
     (are : have_few_simple b.value ≡ true) where
   are_few : (list_all (λ (t : SectionTable). are_few_simple 0 t.1) b.value.0 ≡ true) × few b.value.1
   are_few =
-      let parts = and_parts _ _ (sym (list_all-append (λ (t : SectionTable). are_few_simple 0 t.1) b.value.0 (b.value.1 ∷ []))
-      ∙ are) in
+      let parts = and_parts _ _
+      (sym (list_all-append (λ (t : SectionTable). are_few_simple 0 t.1) b.value.0 (b.value.1 ∷ [])) ∙ are) in
       (parts.0, (and_parts _ _ parts.1).0)
 
   pub unfolded_trie : item_trie (Tables made) ≡ item_trie (items.Sections b)
@@ -60,14 +58,16 @@ module _ (b : Box SectionTables Global) (made : Box (Vec Table Global × Table) 
 
   pub unfolded_origins : (at s : ℕ) → item_origins (Tables made) at s ≡ item_origins (items.Sections b) at s
   unfolded_origins at s =
-      tables_seen made at s
-      ∙ ap₂ (λ n os. entry (array_origin at n) (at_numbers os))
-      (ap (λ t. (table_within t).section) latest ∙ ap (λ w. w.section) (section_within b.value.1.0 b.value.1.1 are_few.1))
-      (map-append (of_table at s) (map table_within made.value.0.items) (table_within made.value.1 ∷ [])
-      ∙ ap₂ (λ os o. os ++ o ∷ [])
-      (mapped_twice (of_table at s) table_within made.value.0.items
-      ∙ ap (map (λ t. of_table at s (table_within t))) earlier
-      ∙ all_of (λ t. of_table at s (table_within t)) (section_origins at) (λ t are. origins_of t are at s) b.value.0
-      are_few.0)
-      (ap (λ t. of_table at s (table_within t)) latest ∙ origins_of b.value.1 are_few.1 at s))
-      ∙ sym (sections_seen b at s)
+      rw (
+        tables_seen made at s,
+        sections_seen b at s,
+        earlier,
+        latest,
+        map_push (of_table at s) (map table_within (map table_of b.value.0)) (table_within (table_of b.value.1)),
+        map-map (of_table at s) table_within (map table_of b.value.0),
+        all_of (λ t. of_table at s (table_within t)) (section_origins at) (λ t are. origins_of t are at s) b.value.0
+            are_few.0,
+        origins_of b.value.1 are_few.1 at s,
+        section_within b.value.1.0 b.value.1.1 are_few.1,
+      )
+      refl

@@ -1,6 +1,6 @@
 -- The table that a header names, and the array of tables that it adds an element to, as contracts say it.
-use Rattle.std.proofs.Common.{◌≡◌, ℕ, suc, ◌+◌, ◌≤◌, true, false, List, [], ◌∷◌, ◌++◌, map, length}
-use Rattle.std.proofs.Common.{refl, ap, sym, ◌∙◌, arith, rules, Some, None, Vec, Box, Global, Result, Ok, Err}
+use Rattle.std.proofs.Common.{◌≡◌, ℕ, ◌+◌, ◌≤◌, true, false, List, [], map}
+use Rattle.std.proofs.Common.{refl, arith, rules, Some, None, Vec, Box, Global, Result}
 use Rattle.std.proofs.lemmas.List.{length-map}
 use Rattle.basic_toml_value.specs.Nesting.{nesting_limit}
 use Rattle.basic_toml_grammar.specs.Sections.{Rows}
@@ -16,11 +16,11 @@ use Rattle.basic_toml_grow.specs.declared.item.Item.TheOpen.{Table-F}
 use Rattle.basic_toml_grow.specs.declared.item.Item.TheViews.{roll-Table}
 use Rattle.basic_toml_grow.specs.declared.item.Child.{Child}
 use Rattle.basic_toml_grow.specs.declared.item.Table.{Table, out-Table}
-use Rattle.basic_toml_grow.specs.Item.{item_trie, table_trie, by_numbers}
+use Rattle.basic_toml_grow.specs.Item.{item_trie, table_trie}
 use Rattle.basic_toml_grow.specs.Rows.{EntersRows}
 use Rattle.basic_toml_grow.specs.Headers.{EntersHeader}
 use Rattle.basic_toml_grow.proofs.ItemTries.{table_entries_trie}
-use Rattle.basic_toml_grow.proofs.HeadersInATrie.{array_of, rows_in, rows_kept_out}
+use Rattle.basic_toml_grow.proofs.HeadersInATrie.{array_of, rows_entered}
 
 -- a table as the code changes it: it is named, and then it gets its section
 abbrev pub named_fields : Table → Table-F items.Item Child Table
@@ -42,38 +42,25 @@ pub open_named : (t : Table) (n : ℕ) (rows : Rows) (level : ℕ) (after : Trie
     → (out-Table t).named ≡ false → (out-Table t).dotted ≡ false → level ≤ nesting_limit
     → EntersRows rows level (table_trie (opened_table t n)) after r
     → EntersHeader false rows [] level (table_trie t) after r
-open_named t n rows level after r named dotted within = on r
-  where
-    same : put_table rows (table_trie t) ≡ put_rows rows (table_trie (opened_table t n))
-    same =
-        let o = out-Table t in
-        let is : out-Table (opened_table t n)
-        ≡ record { passed = o.passed; named = true; dotted = o.dotted; section = n; entries = o.entries } =
-        search (rules, the_lemmas) in
-        rw (table_entries_trie t, table_entries_trie (opened_table t n), is, named, dotted) refl
-
-    on : (r : Result (Unit {0}) Clash) → EntersRows rows level (table_trie (opened_table t n)) after r
-        → EntersHeader false rows [] level (table_trie t) after r
-    on (Ok x) are =
-        rows_in (put_table rows (table_trie t)) rows level (level + 0) (table_trie (opened_table t n)) after same
-        (omega arith) within are
-    on (Err clash) out =
-        rows_kept_out clash (put_table rows (table_trie t)) rows level (level + 0) (table_trie (opened_table t n)) same
-        (omega arith) out
+open_named t n rows level after r named dotted within are =
+    let o = out-Table t in
+    let is : out-Table (opened_table t n)
+    ≡ record { passed = o.passed; named = true; dotted = o.dotted; section = n; entries = o.entries } =
+    search (rules, the_lemmas) in
+    let same : put_table rows (table_trie t) ≡ put_rows rows (table_trie (opened_table t n)) =
+    rw (table_entries_trie t, table_entries_trie (opened_table t n), is, named, dotted) refl in
+    rows_entered (put_table rows (table_trie t)) rows level (level + 0) (table_trie (opened_table t n)) after r same
+    (omega arith) within are
 
 pub tables_trie : (tables : Box (Vec Table Global × Table) Global)
     → item_trie (Tables tables) ≡ array_of (map table_trie tables.value.0.items) (table_trie tables.value.1)
 tables_trie tables = search (rules, the_lemmas)
 
 pub sections_trie : (tables : Box SectionTables Global)
-    → item_trie (items.Sections tables) ≡ array_of (map (λ t. rows_trie t.1) tables.value.0) (rows_trie tables.value.1.1)
+    → item_trie (items.Sections tables)
+    ≡ array_of (map (λ t. rows_trie t.1) tables.value.0) (rows_trie tables.value.1.1)
 sections_trie tables =
-    let before = map (λ (t : SectionTable). rows_trie t.1) tables.value.0 in
-    let made : item_trie (items.Sections tables)
-    ≡ trie (Some (standings.array (suc (length tables.value.0)))) None (by_numbers 0 (before ++ rows_trie tables.value.1.1 ∷ [])) =
-    search (rules, the_lemmas) in
-    made ∙ ap (λ n. trie (Some (standings.array (suc n))) None (by_numbers 0 (before ++ rows_trie tables.value.1.1 ∷ [])))
-    (sym (length-map tables.value.0 (λ t. rows_trie t.1)))
+    rw (length-map tables.value.0 (λ (t : SectionTable). rows_trie t.1)) (search (rules, the_lemmas))
 
 pub table_item_trie : (t : Box Table Global) → item_trie (items.Table t) ≡ table_trie t.value
 table_item_trie t = search (rules, the_lemmas)

@@ -1,5 +1,5 @@
 -- The values on the way of a path, and those that rows end with.
-use Rattle.std.proofs.Common.{◌≡◌, ◌⊎◌, inl, inr, ℕ, Bool, true, false, List, [], ◌∷◌, ◌++◌, refl, sym, ap, ◌∙◌, subst}
+use Rattle.std.proofs.Common.{◌≡◌, ◌⊎◌, inl, inr, ℕ, Bool, true, false, List, [], ◌∷◌, ◌++◌, refl, sym, ap, ◌∙◌}
 use Rattle.std.proofs.Common.{Option, Some, None}
 use Rattle.std.specs.Prelude.{if◌then◌else◌}
 use Rattle.std.specs.Option.{option_or}
@@ -49,8 +49,7 @@ none_on ends (l ∷ path) [] rest k none parts = none_left (ends []) (value_on (
 none_on ends (l ∷ path) (m ∷ front) rest k none parts =
     let same : l ≡ m = cc in
     let more : path ≡ front ++ k ∷ rest = cc in
-    subst (λ (m : List ℕ). ends (m ∷ front) ≡ None) same
-    (none_on (λ p. ends (l ∷ p)) path front rest k
+    rw same at (none_on (λ p. ends (l ∷ p)) path front rest k
     (none_right (ends []) (value_on (λ p. ends (l ∷ p)) path) none) more)
 
 -- it goes by what ends where, and by nothing else
@@ -58,8 +57,7 @@ pub same_on : (ends others : Ends) → ((p : KeyTexts) → ends p ≡ others p) 
     → value_on ends path ≡ value_on others path
 same_on ends others same [] = refl
 same_on ends others same (k ∷ path) =
-    ap (λ o. option_or o (value_on (λ p. ends (k ∷ p)) path)) (same [])
-    ∙ ap (λ o. option_or (others []) o) (same_on (λ p. ends (k ∷ p)) (λ p. others (k ∷ p)) (λ p. same (k ∷ p)) path)
+    rw (same [], same_on (λ p. ends (k ∷ p)) (λ p. others (k ∷ p)) (λ p. same (k ∷ p)) path) refl
 
 pub keys_same : (p : KeyTexts) → same_keys p p ≡ true
 keys_same [] = refl
@@ -80,11 +78,13 @@ module _ (ends : Ends) (path : KeyTexts) (at : ℕ) where
 
   -- a row that goes on from no value is followed
   pub row_ends : value_on ends path ≡ None → Follows ends (and_end ends path at) path at
-  row_ends free = record { free = free; kept = kept; stands = stands (ends path) refl; told = told }
+  row_ends free = record {
+    free = free;
+    kept = λ p s e. rw e refl;
+    stands = stands (ends path) refl;
+    told = λ p s e. told_by p s (ends p) (same_keys p path) refl refl e;
+  }
     where
-      kept : (p : KeyTexts) (s : ℕ) → ends p ≡ Some s → and_end ends path at p ≡ Some s
-      kept p s e = ap (λ o. end_of o (same_keys p path)) e
-
       stands : (o : Option ℕ) → ends path ≡ o → (s : ℕ) × (and_end ends path at path ≡ Some s)
       stands (Some s) e = (s, ap (λ o. end_of o (same_keys path path)) e)
       stands None e = (at, ap (λ o. end_of o (same_keys path path)) e ∙ ap (end_of None) (keys_same path))
@@ -94,9 +94,6 @@ module _ (ends : Ends) (path : KeyTexts) (at : ℕ) where
       told_by p s (Some t) b e f g = inl (e ∙ g)
       told_by p s None true e f g = let same : s ≡ at = cc in inr (keys_are p path f, same)
       told_by p s None false e f g = cc
-
-      told : (p : KeyTexts) (s : ℕ) → and_end ends path at p ≡ Some s → (ends p ≡ Some s) ⊎ ((p ≡ path) × (s ≡ at))
-      told p s e = told_by p s (ends p) (same_keys p path) refl refl e
 
   -- and each that is followed ends so
   pub follows_so : (after : Ends) → Follows ends after path at → (p : KeyTexts) → after p ≡ and_end ends path at p
@@ -109,8 +106,7 @@ module _ (ends : Ends) (path : KeyTexts) (at : ℕ) where
       go : (o : Option ℕ) (b : Bool) (r : Option ℕ) → ends p ≡ o → same_keys p path ≡ b → after p ≡ r
           → after p ≡ end_of (ends p) (same_keys p path)
       go (Some s) b r e f g = follows.kept p s e ∙ sym (ap (λ o. end_of o (same_keys p path)) e)
-      go None true r e f g = rw (e, f) (own (follows.stands.0) (subst (λ (q : KeyTexts). after q ≡ Some follows.stands.0)
-          (sym (keys_are p path f)) follows.stands.1))
+      go None true r e f g = rw (e, f) (own (follows.stands.0) (ap after (keys_are p path f) ∙ follows.stands.1))
         where
           own : (s : ℕ) → after p ≡ Some s → after p ≡ Some at
           own s there = elim (follows.told p s there) [

@@ -1,6 +1,7 @@
 -- What a section does to a table, to what stands at a key and to an item: what is entered or what is met first, where
 -- what its rows bring comes from, and what its header marks.
 use Rattle.std.specs.Prelude.{◌≡◌, ℕ, ◌+◌, Bool, false, List, [], ◌∷◌, ◌++◌, map, Result, IfErr, IfOk}
+use Rattle.std.specs.declared.alloc.AllocError.{AllocError}
 use Rattle.basic_toml_value.specs.Data.{Data}
 use Rattle.basic_toml_grammar.specs.Sections.{KeyTexts, Raw, Rows}
 use Rattle.basic_toml_read.specs.declared.section.Key as keys
@@ -9,10 +10,10 @@ use Rattle.basic_toml_plain.specs.Tries.{leaf}
 use Rattle.basic_toml_grow.specs.declared.clash.Clash.{Clash}
 use Rattle.basic_toml_grow.specs.declared.met.Met.{Met}
 use Rattle.basic_toml_grow.specs.declared.item.Item.{Item}
-use Rattle.basic_toml_grow.specs.declared.item.Child.{Child}
+use Rattle.basic_toml_grow.specs.declared.item.Child.{Child, out-Child}
 use Rattle.basic_toml_grow.specs.declared.item.Table.{Table}
 use Rattle.basic_toml_grow.specs.Clash.{NamesObstacle}
-use Rattle.basic_toml_grow.specs.Item.{child_trie, item_trie, table_trie, trie_before}
+use Rattle.basic_toml_grow.specs.Item.{child_trie, is_section, item_trie, table_trie, trie_before}
 use Rattle.basic_toml_grow.specs.Headers.{EntersHeader, EntersItem, entered_at, entered_by, steps_at, steps_by}
 use Rattle.basic_toml_grow.specs.Headers.{obstacle_at, obstacle_by}
 use Rattle.basic_toml_grow.specs.Obstacles.{keys_obstacle, rows_obstacle, value_obstacle}
@@ -86,3 +87,10 @@ pub record TakesHeaderInItem (a : Bool) (rows : Rows) (keys : KeyTexts) (level n
       (item_origins old start section) (item_origins new start section))
   pub marks : IfOk r (λ _. (start section : ℕ) → MarksWay n (way_by a keys (item_trie old))
       (item_origins new start section))
+
+-- what stands at a key, once what was kept there as it was read is made into entries: it tells what it told
+pub record Unfolds (old new : Child) (r : Result (Unit {0}) AllocError) : Type 0 where
+  pub trie : IfOk r (λ _. child_trie new ≡ child_trie old)
+  pub origins : IfOk r (λ _. child_origins new ≡ child_origins old)
+  pub unfolded : IfOk r (λ _. is_section (out-Child new).item ≡ false)
+  pub others : is_section (out-Child old).item ≡ false → new ≡ old

@@ -1,12 +1,10 @@
 //! Tables of which one header alone speaks: few simple rows stay as they were read, until another header goes on from
 //! their table, or other rows come into their array.
 
-ghost use Rattle.std.specs.Prelude.{◌≡◌, false, true, IfOk, map};
+ghost use Rattle.std.specs.Prelude.{◌≡◌, true, IfOk, map};
 ghost use Rattle.basic_toml_plain.specs.PlainTables.{have_few_simple};
-ghost use Rattle.basic_toml_grow.specs.declared.item.Child.{out-Child};
-ghost use Rattle.basic_toml_grow.specs.Item.{child_trie, is_section};
-ghost use Rattle.basic_toml_grow.specs.Origins.{child_origins};
 ghost use Rattle.basic_toml_grow.specs.Simple.{table_of};
+ghost use Rattle.basic_toml_grow.specs.Takes.{Unfolds};
 
 use crate::item::{Child, Item, Table};
 use crate::simple::{first_table, section_table};
@@ -18,10 +16,7 @@ impl<'de> Child<'de> {
     /// Makes entries of the rows of sections, so that a header can go on from their tables. Nothing else is changed.
     #[inline(always)]
     pub(crate) fn unfold(&mut self, alloc: Global) -> Result<(), AllocError>
-        ensures trie { IfOk result (λ _. child_trie self.new ≡ child_trie self.old) }
-        ensures origins { IfOk result (λ _. child_origins self.new ≡ child_origins self.old) }
-        ensures unfolded { IfOk result (λ _. is_section (out-Child self.new).item ≡ false) }
-        ensures others { is_section (out-Child self.old).item ≡ false → self.new ≡ self.old }
+        ensures { Unfolds self.old self.new result }
     {
         match &self.item {
             Item::Section(_) => self.make_entries(alloc),
@@ -33,10 +28,7 @@ impl<'de> Child<'de> {
     // The same, not inlined: what it needs of the stack is not taken at each level of a header.
     #[inline(never)]
     fn make_entries(&mut self, alloc: Global) -> Result<(), AllocError>
-        ensures trie { IfOk result (λ _. child_trie self.new ≡ child_trie self.old) }
-        ensures origins { IfOk result (λ _. child_origins self.new ≡ child_origins self.old) }
-        ensures unfolded { IfOk result (λ _. is_section (out-Child self.new).item ≡ false) }
-        ensures others { is_section (out-Child self.old).item ≡ false → self.new ≡ self.old }
+        ensures { Unfolds self.old self.new result }
     {
         match &mut self.item {
             Item::Section(table) => {

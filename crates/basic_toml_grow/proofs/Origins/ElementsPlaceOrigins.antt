@@ -1,11 +1,10 @@
 -- A header that goes on into the latest element of an array of tables, and what a table that is added to one changes.
-use Rattle.std.proofs.Common.{◌≡◌, ℕ, zero, suc, true, false, List, [], ◌∷◌, ◌++◌, Option, Some, None, refl, ap}
-use Rattle.std.proofs.Common.{sym, ◌∙◌, map, arith, length, slice_get, Vec, Box, Global, subst}
-use Rattle.std.proofs.Common.{nat_eq}
+use Rattle.std.proofs.Common.{◌≡◌, ℕ, zero, suc, true, false, List, [], ◌∷◌, ◌++◌, Option, Some, None, refl, ap, sym}
+use Rattle.std.proofs.Common.{◌∙◌, map, arith, length, slice_get, Vec, Box, Global, nat_eq}
 use Rattle.std.specs.Prelude.{if◌then◌else◌}
 use Prim.Native.Nat.compare
 use Rattle.std.proofs.lemmas.Bool.{and_parts, false≢true}
-use Rattle.std.proofs.lemmas.List.{length-map, map-append}
+use Rattle.std.proofs.lemmas.List.{length-map, map_push}
 use Rattle.basic_toml_grammar.specs.Steps.{Step, key, number, Path, begins}
 use Rattle.basic_toml_grow.specs.declared.item.Item.{Tables}
 use Rattle.basic_toml_grow.specs.declared.item.Table.{Table}
@@ -14,8 +13,7 @@ use Rattle.basic_toml_grow.specs.Origins.{Origin, Origins, no_origins, entry, un
 use Rattle.basic_toml_grow.specs.Origins.{Within, of_table, item_origins, table_within, or_else, along}
 use Rattle.basic_toml_grow.specs.Ways.{GrowsAlong, IsMarked, MarksTable, MarksWay}
 use Rattle.basic_toml_grow.proofs.HeadersInATrie.{fresh}
-use Rattle.basic_toml_grow.proofs.Origins.OriginsSeen.{tables_seen, table_origins, fresh_within}
-use Rattle.basic_toml_grow.proofs.Origins.OriginsSeen.{or_none}
+use Rattle.basic_toml_grow.proofs.Origins.OriginsSeen.{tables_seen, table_origins, fresh_within, or_none}
 use Rattle.basic_toml_grow.proofs.Origins.HeadersPlaceOrigins.{Keeps, entry_grows, entry_keeps}
 
 -- a table that stands at a key
@@ -90,8 +88,7 @@ numbers_marked n w xs x o here marks [] on = here
 numbers_marked n w xs x o here marks (key k ∷ q) on = absurd (false≢true on)
 numbers_marked n w xs x o here marks (number i ∷ q) on =
     let parts = and_parts (nat_eq i (length xs)) (begins q w) on in
-    let last = ap (slice_get (xs ++ x ∷ [])) (same_number (length xs) i parts.0) ∙ last_is xs x in
-    subst (IsMarked n) (sym (ap (λ o. under o q) last)) (marks q parts.1)
+    rw (same_number (length xs) i parts.0, last_is xs x) (marks q parts.1)
 
 -- the elements of an array of tables
 abbrev pub elements_of : ℕ → ℕ → List Table → List Origins
@@ -104,9 +101,8 @@ as_many at s ts =
 pub array_below : (b : Box (Vec Table Global × Table) Global) (at s : ℕ) → item_origins (Tables b) at s
     ≡ entry (array_origin at (table_within b.value.1).section)
     (at_numbers (elements_of at s b.value.0.items ++ of_table at s (table_within b.value.1) ∷ []))
-array_below b at s = tables_seen b at s
-    ∙ ap (λ os. entry (array_origin at (table_within b.value.1).section) (at_numbers os))
-    (map-append (of_table at s) (map table_within b.value.0.items) (table_within b.value.1 ∷ []))
+array_below b at s =
+    rw (tables_seen b at s, map_push (of_table at s) (map table_within b.value.0.items) (table_within b.value.1)) refl
 
 -- on into the latest element
 pub latest_grows : (old after : Box (Vec Table Global × Table) Global) (w : Path) (rows : Origins)
@@ -144,9 +140,7 @@ pub more_keeps : (old after : Box (Vec Table Global × Table) Global) (at s : �
 more_keeps old after at s tables empty =
     let xs = elements_of at s after.value.0.items in
     let was : elements_of at s old.value.0.items ++ of_table at s (table_within old.value.1) ∷ [] ≡ xs =
-    sym (ap (elements_of at s) tables
-    ∙ ap (map (of_table at s)) (map-append table_within old.value.0.items (old.value.1 ∷ []))
-    ∙ map-append (of_table at s) (map table_within old.value.0.items) (table_within old.value.1 ∷ [])) in
+    sym (rw (tables, map_push table_within old.value.0.items old.value.1, map_push (of_table at s)) refl) in
     rw (
       array_below old at s,
       array_below after at s,

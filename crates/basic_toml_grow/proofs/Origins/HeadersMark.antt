@@ -1,7 +1,7 @@
 -- What stands on the way of a header: headers made it, and the section of this one is the latest that leads there.
-use Rattle.std.proofs.Common.{◌≡◌, ℕ, Bool, true, false, List, ◌∷◌, [], refl, ap, sym, ◌∙◌, rules, subst}
+use Rattle.std.proofs.Common.{◌≡◌, ℕ, true, List, ◌∷◌, [], refl, ap, ◌∙◌, rules}
 use Rattle.std.specs.Prelude.{◌||◌}
-use Rattle.std.proofs.lemmas.Bool.{false≢true, and_parts}
+use Rattle.std.proofs.lemmas.Bool.{false≢true, and_parts, or_right}
 use Rattle.std.proofs.lemmas.Slice.Eq.{bytes_eq-Decides}
 use Rattle.std.specs.Str.{bytes_eq}
 use Rattle.basic_toml_grammar.specs.Steps.{Step, key, number, Path, begins}
@@ -16,16 +16,12 @@ use Rattle.basic_toml_grow.proofs.TablesOpened.{opened_table}
 use Rattle.basic_toml_grow.proofs.Origins.OriginsSeen.{made_seen, section_seen, table_origins, stands_now}
 
 -- the table that a header names
-or_true : (b : Bool) → (b || true) ≡ true
-or_true true = refl
-or_true false = refl
-
 pub opened_marks : (t : Table) (n : ℕ) (rows : Origins) (u : Table)
     → table_within u ≡ with_more (table_within (opened_table t n)) rows → MarksTable n [] (table_within u)
 opened_marks t n rows u comes = record {
   made = ap (λ w. w.made) comes ∙ made_seen (opened_table t n)
       ∙ ap (λ m. (out-Table (opened_table t n)).passed || m) (search (rules, the_lemmas))
-      ∙ or_true (out-Table (opened_table t n)).passed;
+      ∙ or_right _ _ refl;
   section = ap (λ w. w.section) comes ∙ section_seen (opened_table t n) ∙ search (rules, the_lemmas);
   below = λ s p on. absurd (false≢true on);
 }
@@ -47,4 +43,4 @@ passed_marks {k = k} {t = t} {u = u} {p = p} {there = there} {now = now} {n = n}
         let same : l ≡ k = (bytes_eq-Decides l k).0 parts.0 in
         let here =
         stands_now t u there now k pass.entries p pass.entered pass.stands (ap (λ o. o.entries) pass.is) q in
-        subst (IsMarked n) (sym (ap (λ l. table_origins u (key l ∷ q)) same ∙ here)) (marks q parts.1)
+        rw (same, here) (marks q parts.1)

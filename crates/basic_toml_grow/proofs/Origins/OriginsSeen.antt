@@ -1,16 +1,16 @@
 -- The origins in a table and in what stands in it, one level at a time, and how they change at a key.
-use Rattle.std.proofs.Common.{◌≡◌, ℕ, Bool, true, false, List, [], ◌∷◌, ◌++◌, Option, Some, None}
-use Rattle.std.proofs.Common.{refl, ap}
-use Rattle.std.proofs.Common.{sym, ◌∙◌, map, rules, option_map, slice_get, Vec, Box, Global, codes}
-use Rattle.std.specs.Prelude.{◌||◌, not, if◌then◌else◌}
+use Rattle.std.proofs.Common.{◌≡◌, ℕ, true, false, List, [], ◌∷◌, ◌++◌, Option, Some, None}
+use Rattle.std.proofs.Common.{refl, ap, inl, inr, sym, ◌∙◌, map, rules, option_map, slice_get, Vec, Box, Global, codes}
+use Rattle.std.specs.Prelude.{◌||◌}
 use Rattle.std.specs.Option.{option_or}
 use Rattle.std.specs.Str.{bytes_eq}
 use Rattle.std.proofs.Math.Path.{fun_ext}
+use Rattle.std.proofs.lemmas.Bool.{cases_Bool}
 use Rattle.std.proofs.lemmas.Slice.Eq.{bytes_eq-Decides}
 use Rattle.basic_toml_value.specs.Pairs.{has_key, value_at}
 use Rattle.basic_toml_grammar.specs.Standing as standings
 use Rattle.basic_toml_grammar.specs.Steps.{key, number, Path}
-use Rattle.basic_toml_grammar.specs.Trie.{Trie, trie, Tries, no_tries, standing}
+use Rattle.basic_toml_grammar.specs.Trie.{trie, no_tries}
 use Rattle.basic_toml_plain.specs.Tries.{by_keys}
 use Rattle.basic_toml_plain.specs.PlainTables.{SectionTables}
 use Rattle.basic_toml_grow.specs.declared.item.Item.{the_lemmas, Array, Inline, Tables}
@@ -21,10 +21,11 @@ use Rattle.basic_toml_grow.specs.Item.{child_trie, table_trie}
 use Rattle.basic_toml_value.specs.Growth.{with_value, values_of, FindsOrAdds}
 use Rattle.basic_toml_value.specs.declared.pairs.growth.Place.{Place}
 use Rattle.basic_toml_grow.specs.Origins.{Origin, Origins, no_origins, entry, under, at_keys, at_numbers}
+use Rattle.basic_toml_grow.specs.Origins.{elements_within, section_origins, array_origin, value_origin, of_table}
+use Rattle.basic_toml_grow.specs.Origins.{rows_origins, table_origin, item_origins, child_origins, table_within}
+use Rattle.basic_toml_grow.specs.Origins.{or_else, origins_before, beyond}
 use Rattle.basic_toml_read.specs.declared.section.Row.{Row}
 use Rattle.basic_toml_read.specs.SectionView.{rows_seen}
-use Rattle.basic_toml_grow.specs.Origins.{elements_within, section_origins, array_origin, value_origin, of_table, rows_origins, table_origin}
-use Rattle.basic_toml_grow.specs.Origins.{Within, item_origins, child_origins, table_within, or_else, origins_before, beyond}
 use Rattle.basic_toml_grow.proofs.ItemTries.{table_entries_trie}
 use Rattle.basic_toml_value.proofs.KeysChanged.{value_at-map, first_at, none_at, put_at, kept_elsewhere}
 use Rattle.basic_toml_grow.proofs.KeysInATrie.{tries_of}
@@ -87,9 +88,7 @@ tables_seen tables at s = search (rules, the_lemmas)
 -- what stands at a key
 pub seen_at_key : (t : Table) (k : List ℕ) (p : Path)
     → table_origins t (key k ∷ p) ≡ under (option_map child_origins (value_at (out-Table t).entries k)) p
-seen_at_key t k p =
-    ap (λ f. f (key k ∷ p)) (below_seen t)
-    ∙ ap (λ o. under o p) (value_at-map child_origins (out-Table t).entries k)
+seen_at_key t k p = rw (below_seen t, value_at-map child_origins (out-Table t).entries k) refl
 
 pub seen_at_none : (t : Table) → table_origins t [] ≡ None
 seen_at_none t = ap (λ f. f []) (below_seen t)
@@ -102,65 +101,57 @@ or_none None = refl
 or_none (Some o) = refl
 
 -- a table where a key is entered, and another child put in the place of what stands there then
-module _ {gives : Child → Type 0} (t u : Table) (there gone : Child) (k : List ℕ) (new : List (List ℕ × Child)) (p : Place)
-    (e : FindsOrAdds gives k (out-Table t).entries new p) (stands : slice_get (values_of new) p.position ≡ Some there)
+module _ {gives : Child → Type 0} (t u : Table) (there gone : Child) (k : List ℕ) (new : List (List ℕ × Child))
+    (p : Place) (e : FindsOrAdds gives k (out-Table t).entries new p)
+    (stands : slice_get (values_of new) p.position ≡ Some there)
     (put : (out-Table u).entries ≡ with_value new p.position gone) where
   stood : (q : Path) → table_origins t (key k ∷ q) ≡ origins_before p.is_new (child_origins there) q
-  stood q = seen_at_key t k q ∙ go (has_key (out-Table t).entries k) refl e.entered.pairs
-    where
-      go : (b : Bool) → has_key (out-Table t).entries k ≡ b
-          → new ≡ (if b then (out-Table t).entries else (out-Table t).entries ++ (k, e.there) ∷ [])
-          → under (option_map child_origins (value_at (out-Table t).entries k)) q
-          ≡ origins_before p.is_new (child_origins there) q
-      go true is pairs =
-          ap (λ ps. under (option_map child_origins (value_at ps k)) q) (sym pairs)
-          ∙ ap (λ o. under (option_map child_origins o) q)
-          (first_at new p.position k there e.entered.at e.entered.first stands)
-          ∙ sym (ap (λ b. origins_before b (child_origins there) q) (e.is_new ∙ ap not is))
-      go false is pairs =
-          ap (λ o. under (option_map child_origins o) q) (none_at (out-Table t).entries k is)
-          ∙ sym (ap (λ b. origins_before b (child_origins there) q) (e.is_new ∙ ap not is))
+  stood q =
+      let old = (out-Table t).entries in
+      seen_at_key t k q ∙ elim (cases_Bool (has_key old k)) [
+        | inl is ↦
+            let same : new ≡ old = rw is at e.entered.pairs in
+            rw (← same, first_at new p.position k there e.entered.at e.entered.first stands, e.is_new, is) refl
+        | inr is ↦ rw (none_at old k is, e.is_new, is) refl
+      ]
 
   pub stands_now : (q : Path) → table_origins u (key k ∷ q) ≡ child_origins gone q
   stands_now q =
-      seen_at_key u k q
-      ∙ ap (λ ps. under (option_map child_origins (value_at ps k)) q) put
-      ∙ ap (λ o. under (option_map child_origins o) q)
-      (put_at k e.there (out-Table t).entries new p.position e.entered there stands gone)
+      rw (seen_at_key u k q, put, put_at k e.there (out-Table t).entries new p.position e.entered there stands gone)
+      refl
 
   elsewhere : (l : List ℕ) (q : Path) → bytes_eq l k ≡ false → table_origins u (key l ∷ q) ≡ table_origins t (key l ∷ q)
   elsewhere l q other =
-      seen_at_key u l q
-      ∙ ap (λ ps. under (option_map child_origins (value_at ps l)) q) put
-      ∙ ap (λ o. under (option_map child_origins o) q)
-      (kept_elsewhere k e.there (out-Table t).entries new p.position e.entered there stands gone l other)
-      ∙ sym (seen_at_key t l q)
+      rw (
+        seen_at_key u l q,
+        put,
+        kept_elsewhere k e.there (out-Table t).entries new p.position e.entered there stands gone l other,
+      )
+      (sym (seen_at_key t l q))
 
   -- what comes below the key comes into the table
   pub grows_at : (below : Origins) (q : Path)
       → ((r : Path) → q ≡ key k ∷ r
       → child_origins gone r ≡ or_else (origins_before p.is_new (child_origins there)) below r)
       → table_origins u q ≡ or_else (table_origins t) (beyond (key k) below) q
-  grows_at below [] more = seen_at_none u ∙ sym (ap (λ o. option_or o None) (seen_at_none t))
-  grows_at below (number n ∷ q) more =
-      seen_at_number u n q ∙ sym (ap (λ o. option_or o None) (seen_at_number t n q))
-  grows_at below (key l ∷ q) more = go (bytes_eq l k) refl
-    where
-      go : (b : Bool) → bytes_eq l k ≡ b
-          → table_origins u (key l ∷ q)
-          ≡ option_or (table_origins t (key l ∷ q)) (if bytes_eq l k then below q else None)
-      go true e =
-          let same : l ≡ k = (bytes_eq-Decides l k).0 e in
-          let there_now : child_origins gone q ≡ or_else (origins_before p.is_new (child_origins there)) below q =
-          more q (ap (λ l. key l ∷ q) same) in
-          ap (λ l. table_origins u (key l ∷ q)) same ∙ stands_now q ∙ there_now
-          ∙ ap (λ o. option_or o (below q)) (sym (ap (λ l. table_origins t (key l ∷ q)) same ∙ stood q))
-          ∙ ap (λ b. option_or (table_origins t (key l ∷ q)) (if b then below q else None)) (sym e)
-      go false e =
-          elsewhere l q e ∙ sym (or_none (table_origins t (key l ∷ q)))
-          ∙ ap (λ b. option_or (table_origins t (key l ∷ q)) (if b then below q else None)) (sym e)
+  grows_at below [] more = rw (seen_at_none u, seen_at_none t) refl
+  grows_at below (number n ∷ q) more = rw (seen_at_number u n q, seen_at_number t n q) refl
+  grows_at below (key l ∷ q) more = elim (cases_Bool (bytes_eq l k)) [
+    | inl e ↦
+        let same : l ≡ k = (bytes_eq-Decides l k).0 e in
+        rw (e, same, stood q) (stands_now q ∙ more q (ap (λ l. key l ∷ q) same))
+    | inr e ↦ rw e (elsewhere l q e ∙ sym (or_none (table_origins t (key l ∷ q))))
+  ]
 
 -- nothing comes from a table without entries
+pub no_keys_below : at_keys [] ≡ no_origins
+no_keys_below = fun_ext go
+  where
+    go : (p : Path) → at_keys [] p ≡ None
+    go [] = refl
+    go (key k ∷ p) = refl
+    go (number n ∷ p) = refl
+
 no_entries : (ps : List (List ℕ × Child)) → by_keys (map (λ p. (p.0, child_trie p.1)) ps) ≡ no_tries → ps ≡ []
 no_entries [] e = refl
 no_entries (p ∷ ps) e = absurd (cc)
@@ -170,24 +161,7 @@ pub fresh_within : (t : Table) → table_trie t ≡ trie (Some (standings.table 
 unfolding tries_of
 fresh_within t is =
     let parts = sym (table_entries_trie t) ∙ is in
-    let entries : (out-Table t).entries ≡ [] = no_entries (out-Table t).entries (ap tries_in parts) in
-    let made : ((out-Table t).passed || (out-Table t).named) ≡ false = ap (λ t. is_made_in (standing t)) parts in
-    table_seen t
-    ∙ ap (λ b. from_here b (at_keys (map (λ p. (p.0, child_origins p.1)) (out-Table t).entries))) made
-    ∙ ap (λ ps. from_here false (at_keys (map (λ p. (p.0, child_origins p.1)) ps))) entries
-    ∙ ap (from_here false) (fun_ext none_in)
-  where
-    from_here : Bool → Origins → Within
-    from_here made below = record { made = made; section = (out-Table t).section; below = below }
-
-    tries_in : Trie → Tries
-    tries_in (trie s v ts) = ts
-
-    is_made_in : Option standings.Standing → Bool
-    is_made_in (Some (standings.table p n d)) = p || n
-    is_made_in _ = true
-
-    none_in : (p : Path) → at_keys [] p ≡ None
-    none_in [] = refl
-    none_in (key k ∷ p) = refl
-    none_in (number n ∷ p) = refl
+    let passed : (out-Table t).passed ≡ false = cc in
+    let named : (out-Table t).named ≡ false = cc in
+    let entries = no_entries (out-Table t).entries (cc) in
+    rw (table_seen t, passed, named, entries, no_keys_below) refl

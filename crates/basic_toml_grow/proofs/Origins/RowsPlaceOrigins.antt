@@ -1,7 +1,6 @@
 -- A row put into a table: where what it makes comes from.
 use Rattle.std.proofs.Common.{◌≡◌, ℕ, Bool, true, false, List, [], ◌∷◌, ◌++◌, Some, refl, ap}
-use Rattle.std.proofs.Common.{sym, ◌∙◌, ap₂, map, rules, slice_get, Box, Global}
-use Rattle.std.specs.Prelude.{◌||◌}
+use Rattle.std.proofs.Common.{sym, ◌∙◌, ap₂, rules, slice_get, Box, Global}
 use Rattle.std.proofs.Math.Path.{fun_ext}
 use Rattle.basic_toml_grammar.specs.Sections.{KeyTexts}
 use Rattle.basic_toml_grammar.specs.Steps.{key, Path}
@@ -13,15 +12,14 @@ use Rattle.basic_toml_grow.specs.declared.item.Table.{Table, out-Table}
 use Rattle.basic_toml_grow.specs.Simple.{with_entries}
 use Rattle.basic_toml_value.specs.Growth.{with_value, values_of, FindsOrAdds}
 use Rattle.basic_toml_value.specs.declared.pairs.growth.Place.{Place}
-use Rattle.basic_toml_grow.specs.Origins.{Origin, Origins, no_origins, entry, at_keys, Within, table_origin}
+use Rattle.basic_toml_grow.specs.Origins.{Origin, Origins, no_origins, entry, Within, table_origin}
 use Rattle.basic_toml_grow.specs.Origins.{child_origins, of_table, section_in}
-use Rattle.basic_toml_grow.specs.Origins.{item_origins, table_within, with_more, or_else, origins_before, beyond, row_origins}
+use Rattle.basic_toml_grow.specs.Origins.{table_within, with_more, or_else, origins_before, beyond, row_origins}
 use Rattle.basic_toml_grow.proofs.ItemTries.{entries_with}
 use Rattle.basic_toml_grow.proofs.KeysInATrie.{with_same}
-use Rattle.basic_toml_grow.proofs.Origins.OriginsSeen.{child_seen, table_seen, made_seen, section_seen}
-use Rattle.basic_toml_grow.proofs.Origins.OriginsSeen.{table_item_seen}
-use Rattle.basic_toml_grow.proofs.MetTellsStop.{dotted_fields}
+use Rattle.basic_toml_grow.proofs.Origins.OriginsSeen.{child_seen, table_seen, made_seen, section_seen, table_item_seen}
 use Rattle.basic_toml_grow.proofs.Origins.OriginsSeen.{grows_at}
+use Rattle.basic_toml_grow.proofs.MetTellsStop.{dotted_fields}
 
 pub origins_on : (k : List ℕ) (ks : KeyTexts) (last : List ℕ) (o : Origin) (below : Origins)
     → row_origins (k ∷ (ks ++ last ∷ [])) o below ≡ beyond (key k) (entry o (row_origins (ks ++ last ∷ []) o below))
@@ -35,14 +33,6 @@ pub within_is : (w v : Within) → w.made ≡ v.made → w.section ≡ v.section
 within_is w v made section below =
     ap₂ (λ b n. within b n w.below) made section ∙ ap (within v.made v.section) (fun_ext below)
 
-entries_made : (t : Table) (ps : List (List ℕ × Child))
-    → (table_within (with_entries t ps)).made ≡ (table_within t).made
-entries_made t ps = made_seen (with_entries t ps) ∙ search (rules, the_lemmas) ∙ sym (made_seen t)
-
-entries_section : (t : Table) (ps : List (List ℕ × Child))
-    → (table_within (with_entries t ps)).section ≡ (table_within t).section
-entries_section t ps = section_seen (with_entries t ps) ∙ search (rules, the_lemmas) ∙ sym (section_seen t)
-
 -- a table in which a key is entered, and another child put in the place of what stands there then
 module _ {gives : Child → Type 0} (before : Table) (k : List ℕ) (there child : Child) (new : List (List ℕ × Child))
     (p : Place) (e : FindsOrAdds gives k (out-Table before).entries new p)
@@ -54,7 +44,8 @@ module _ {gives : Child → Type 0} (before : Table) (k : List ℕ) (there child
       let put = with_value new p.position child in
       ap table_within same
       ∙ within_is (table_within (with_entries before put)) (with_more (table_within before) (beyond (key k) below))
-      (entries_made before put) (entries_section before put)
+      (made_seen (with_entries before put) ∙ search (rules, the_lemmas) ∙ sym (made_seen before))
+      (section_seen (with_entries before put) ∙ search (rules, the_lemmas) ∙ sym (section_seen before))
       (λ q. grows_at before (with_entries before put) there child k new p e stands (entries_with before put) below q
       (λ r is. ap (λ f. f r) comes))
 
@@ -82,13 +73,11 @@ comes_below false o f g row fresh comes = comes
 -- a table that is now dotted
 pub dotted_within : (d : Table) → table_within (roll-Table (dotted_fields d)) ≡ table_within d
 dotted_within d =
-    table_seen (roll-Table (dotted_fields d))
-    ∙ ap (λ o. within (o.passed || o.named) o.section (at_keys (map (λ p. (p.0, child_origins p.1)) o.entries)))
-    (out-roll-Table (dotted_fields d))
-    ∙ sym (table_seen d)
+    rw (table_seen (roll-Table (dotted_fields d)), out-roll-Table (dotted_fields d), table_seen d) refl
 
 pub child_of_table : (t : Box Table Global) (at s : ℕ)
-    → child_origins (roll-Child (record { start = at; section = s; item = items.Table t })) ≡ of_table at s (table_within t.value)
+    → child_origins (roll-Child (record { start = at; section = s; item = items.Table t }))
+    ≡ of_table at s (table_within t.value)
 child_of_table t at s = search (rules, the_lemmas)
 
 -- dots that extend a table: what the row brings comes beside what was there
@@ -105,10 +94,7 @@ pub table_extended : (there : Child) (old : Box Table Global) (u now : Table) (r
     → of_table (out-Child there).start (out-Child there).section (table_within now)
     ≡ or_else (child_origins there) (entry o row)
 table_extended there old u now row o is same more =
-    let at = (out-Child there).start in
-    let s = (out-Child there).section in
     let w = table_within old.value in
-    ap (of_table at s) (more ∙ ap (λ w. with_more w row) same)
-    ∙ or_entry (table_origin w.made at (section_in w s)) o w.below row
-    ∙ sym (ap (λ f. or_else f (entry o row))
-    (child_seen there ∙ ap (λ i. item_origins i at s) is ∙ table_item_seen old at s))
+    let s = section_in w (out-Child there).section in
+    rw (more, same, child_seen there, is, table_item_seen old (out-Child there).start (out-Child there).section)
+    (or_entry (table_origin w.made (out-Child there).start s) o w.below row)

@@ -1,12 +1,11 @@
-use Rattle.std.proofs.Common.{◌≡◌, ◌++◌, ◌∷◌, [], List, ℕ, sym, ap, ◌∙◌, subst, rules, slice_get}
+use Rattle.std.proofs.Common.{◌≡◌, ◌++◌, ◌∷◌, [], List, ℕ, Ok, sym, ap, ◌∙◌, rules, slice_get}
 use Rattle.basic_toml_value.specs.Growth.{values_of}
 use Rattle.basic_toml_plain.proofs.WhatIsLeft.{nothing_left}
 use Rattle.basic_toml_grow.specs.declared.crossed.KeyTree.{out-KeyTree}
 use Rattle.basic_toml_grammar.specs.Sections.{KeyTexts}
 use Rattle.basic_toml_read.specs.declared.section.Key as keys
 use Rattle.basic_toml_read.specs.SectionView.{header_texts}
-use Rattle.basic_toml_grow.specs.KeyTree.{ends_of, Follows, FollowsTo}
-use Rattle.basic_toml_grow.proofs.KeyTreeGrows.{filled, met_here, rolled_below, row_below, row_on}
+use Rattle.basic_toml_grow.proofs.KeyTreeGrows.{met_here, rolled_below, row_on}
 use Rattle.basic_toml_grow.proofs.crossed.+follow.Goals as goal
 
 pub returns-in-Some : goal.returns-in-Some
@@ -20,12 +19,11 @@ returns-in_ok-place-in-None t c =
     let path : header_texts c.args.parents.now ++ c.args.last.now ∷ [] ≡ c.args.last.now ∷ [] =
     ap (λ (ks : List keys.Key). header_texts ks ++ c.args.last.now ∷ [])
     (nothing_left c.args.parents.now c.in-None.ensures.cases) in
-    subst (λ (path : KeyTexts). Follows (ends_of tree) (ends_of (filled tree c.enter.new.self p.position
-    c.end_here.new.tree)) path c.args.start) (sym path)
-    (row_below tree c.value_mut.result.now c.args.last.now c.enter.new.self p c.in_ok-place-in-None.ensures.entered
+    rw path
+    (row_on tree c.value_mut.result.now c.args.last.now c.enter.new.self p c.in_ok-place-in-None.ensures.entered
     (λ u made. search rules)
     (sym (ap (λ ps. slice_get (values_of ps) p.position) (rolled_below (out-KeyTree tree).end c.enter.new.self))
-    ∙ c.value_mut.ensures.value) c.end_here.new.tree c.in_default.is [] c.args.start c.end_here.ensures)
+    ∙ c.value_mut.ensures.value) c.end_here.new.tree c.in_default.is [] c.args.start (Ok tt) c.end_here.ensures)
 
 pub returns-in_ok-place-in-Some-split_first : goal.returns-in_ok-place-in-Some-split_first
 returns-in_ok-place-in-Some-split_first t c =
@@ -36,9 +34,9 @@ returns-in_ok-place-in-Some-split_first t c =
     let path : header_texts c.args.parents.now ++ c.args.last.now ∷ [] ≡ c.as_str.result.now ∷ left =
     ap (λ (ks : List keys.Key). header_texts ks ++ c.args.last.now ∷ []) c.in-Some-split_first.ensures.cases.0
     ∙ ap (λ (k : List ℕ). k ∷ left) (sym c.as_str.ensures.value) in
-    subst (λ (path : KeyTexts). FollowsTo tree path c.args.start (filled tree new p.position c.follow.new.tree)
-    c.follow.result) (sym path)
-    (row_on tree c.value_mut-there.result.now c.as_str.result.now new p c.in_ok-place-in-Some-split_first.ensures.entered
-    (λ u made. search rules)
+    rw path
+    (row_on tree c.value_mut-there.result.now c.as_str.result.now new p
+    c.in_ok-place-in-Some-split_first.ensures.entered (λ u made. search rules)
     (sym (ap (λ ps. slice_get (values_of ps) p.position) (rolled_below (out-KeyTree tree).end new))
-    ∙ c.value_mut-there.ensures.value) c.follow.new.tree c.in_default.is left c.args.start c.follow.result c.follow.ensures)
+    ∙ c.value_mut-there.ensures.value) c.follow.new.tree c.in_default.is left c.args.start c.follow.result
+    c.follow.ensures)

@@ -1,13 +1,11 @@
-use Rattle.std.proofs.Common.{◌≡◌, ℕ, Option, sym, ap, ◌∙◌, subst, Err}
+use Rattle.std.proofs.Common.{ℕ, Option, sym, ap, ◌∙◌, subst, Err}
 use Rattle.std.specs.Option.{option_or}
 use Rattle.std.proofs.lemmas.Result.{err_from_is_err_and}
-use Rattle.basic_toml_read.specs.SectionView.{lined_of, placed_of, raw_of, rows_seen, elements_view}
-use Rattle.basic_toml_read.proofs.ViewsSeen.{array_of}
-use Rattle.basic_toml_grow.specs.Crossed.{crossed_between, crossed_among, crossed_within, crossed_in, crossed_of}
-use Rattle.basic_toml_grow.specs.Crossed.{Looks}
+use Rattle.basic_toml_read.specs.SectionView.{lined_of, placed_of, rows_seen, elements_view}
+use Rattle.basic_toml_read.proofs.ViewsSeen.{array_of, placed_is}
+use Rattle.basic_toml_grow.specs.Crossed.{crossed_between, crossed_among, crossed_within, crossed_in, crossed_of, Looks}
 use Rattle.basic_toml_grow.proofs.FirstGathered.{found_at, none_more, none_in_all, looks_more}
 use Rattle.basic_toml_read.proofs.NextRow.{lined_is}
-use Rattle.basic_toml_read.proofs.ViewsSeen.{placed_is}
 use Rattle.basic_toml_grow.proofs.RowsOfKeys.{row_values, element_values}
 use Rattle.basic_toml_grow.proofs.crossed.+looking.Goals as goal
 
@@ -38,11 +36,7 @@ look_among-returns t c =
 
 pub look_into-returns-in-Array : goal.look_into-returns-in-Array
 look_into-returns-in-Array t c =
-    let same : crossed_of (raw_of c.args.value.now) ≡ crossed_among (elements_view c.as_slice.result.now) =
-    ap (λ v. crossed_of (raw_of v)) c.in-Array.is
-    ∙ ap crossed_of (array_of c.in-Array.elements)
-    ∙ ap (λ es. crossed_among (elements_view es)) (sym c.as_slice.ensures.value) in
-    subst (λ (o : Option ℕ). Looks o c.look_among.result) (sym same) c.look_among.ensures
+    rw (c.in-Array.is, array_of c.in-Array.elements, ← c.as_slice.ensures.value) c.look_among.ensures
 
 pub look_through-returns-in_err-look_between : goal.look_through-returns-in_err-look_between
 look_through-returns-in_err-look_between t c =

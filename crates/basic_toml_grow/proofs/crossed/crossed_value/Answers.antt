@@ -1,7 +1,4 @@
-use Rattle.std.proofs.Common.{◌≡◌, sym, ap, subst, ◌∙◌, Err, Some, ℕ}
-use Rattle.basic_toml_read.specs.SectionView.{rows_seen}
-use Rattle.basic_toml_grow.specs.declared.crossed.Crossed.{Crossed}
-use Rattle.basic_toml_grow.specs.Crossed.{crossed_in, Looks}
+use Rattle.std.proofs.Common.{sym, ap, ◌∙◌, Some, ℕ}
 use Rattle.basic_toml_grow.proofs.RowsOfKeys.{section_rows}
 use Rattle.basic_toml_grow.proofs.crossed.crossed_value.Goals as goal
 
@@ -14,8 +11,6 @@ pub returns-in-Err-At : goal.returns-in-Err-At
 returns-in-Err-At c =
     let parents = c.as_slice.result.now in
     let rows = c.as_slice-2.result.now in
-    let here : crossed_in (rows_seen parents rows) ≡ Some c.in-Err-At.at =
-    subst (λ (e : Crossed). Looks (crossed_in (rows_seen parents rows)) (Err e)) c.in-Err-At.field-0-is
-    c.in-Err-At.ensures in
     ap (λ (n : ℕ). Some n) c.in-Err-At.at-is
-    ∙ sym (section_rows c.args.section.now parents rows c.as_slice.ensures.value c.as_slice-2.ensures.value ∙ here)
+    ∙ sym (section_rows c.args.section.now parents rows c.as_slice.ensures.value c.as_slice-2.ensures.value
+    ∙ (rw c.in-Err-At.field-0-is at c.in-Err-At.ensures))

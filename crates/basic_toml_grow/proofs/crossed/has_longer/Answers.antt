@@ -1,9 +1,8 @@
-use Rattle.std.proofs.Common.{arith, map, List, sym, subst}
+use Rattle.std.proofs.Common.{arith}
 use Rattle.std.proofs.lemmas.List.{drop_all}
-use Rattle.basic_toml_read.specs.declared.section.Row.{Row}
-use Rattle.basic_toml_read.specs.SectionView.{lined_of, rows_seen}
+use Rattle.basic_toml_read.specs.SectionView.{rows_seen}
 use Rattle.basic_toml_grow.proofs.CrossedIsFault.{none_between}
-use Rattle.basic_toml_grow.proofs.RowsGetNoLonger.{Shrink, none_crosses, one_shrinks}
+use Rattle.basic_toml_grow.proofs.RowsGetNoLonger.{none_crosses, one_shrinks}
 use Rattle.basic_toml_grow.proofs.crossed.has_longer.Goals as goal
 
 pub loop-row-init : goal.loop-row-init
@@ -13,8 +12,7 @@ loop-row-init c = λ shrink parents.
 pub returns : goal.returns
 returns c = λ _ parents.
     c.loop-row.invariant
-    (subst (λ (rs : List Row). Shrink c.loop-row.most (map lined_of rs))
-    (sym (drop_all c.loop-row.row-index c.args.rows.now c.loop-row-test.false)) tt) parents
+    (rw (drop_all c.loop-row.row-index c.args.rows.now c.loop-row-test.false) tt) parents
 
 pub loop-row-preserved : goal.loop-row-preserved
 loop-row-preserved c = λ shrink parents.

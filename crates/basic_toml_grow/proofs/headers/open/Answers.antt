@@ -1,9 +1,9 @@
 use Rattle.std.proofs.Common.{arith}
+use Rattle.std.proofs.lemmas.Result.{IfOk-weaker}
 use Rattle.basic_toml_read.specs.SectionView.{rows_view}
 use Rattle.basic_toml_grow.specs.Item.{table_trie}
 use Rattle.basic_toml_grow.specs.Origins.{rows_origins}
 use Rattle.basic_toml_grow.proofs.TablesOpened.{open_named}
-use Rattle.basic_toml_grow.proofs.RowsEntered.{ok_on}
 use Rattle.basic_toml_grow.proofs.Origins.HeadersPlaceOrigins.{opened}
 use Rattle.basic_toml_grow.proofs.Origins.HeadersMark.{opened_marks}
 use Rattle.basic_toml_grow.proofs.headers.open.Goals as goal
@@ -16,12 +16,12 @@ returns-clause-entered c =
 
 pub returns-clause-origins : goal.returns-clause-origins
 returns-clause-origins c =
-    ok_on _ _ c.take_rows.result
+    IfOk-weaker c.take_rows.result _ _
     (λ x comes. opened c.args.table.now c.args.number (rows_origins c.args.number (rows_view c.args.rows.now))
     c.take_rows.new.table comes) c.take_rows.ensures.takes.origins
 
 pub returns-clause-marks : goal.returns-clause-marks
 returns-clause-marks c =
-    ok_on _ _ c.take_rows.result
+    IfOk-weaker c.take_rows.result _ _
     (λ x comes. opened_marks c.args.table.now c.args.number (rows_origins c.args.number (rows_view c.args.rows.now))
     c.take_rows.new.table comes) c.take_rows.ensures.takes.origins

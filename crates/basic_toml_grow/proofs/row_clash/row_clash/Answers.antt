@@ -1,10 +1,9 @@
-use Rattle.std.proofs.Common.{◌≡◌, refl, sym, subst, IfOk, string_bytes, map}
+use Rattle.std.proofs.Common.{◌≡◌, refl, string_bytes, map, length}
+use Rattle.std.proofs.lemmas.Option.{slice_get_past, slice_get_read}
 use Rattle.basic_toml_grammar.specs.Stops.{at_row}
 use Rattle.basic_toml_read.specs.SectionView.{key_of}
-use Rattle.basic_toml_grow.specs.declared.met.Met.{Met}
-use Rattle.basic_toml_grow.specs.Clash.{IsStop}
 use Rattle.basic_toml_grow.specs.RowStops.{key_at, SaysMet}
-use Rattle.basic_toml_grow.proofs.ClashSaysMet.{if_stop, same_row, key_said, last_said, key_there, none_there}
+use Rattle.basic_toml_grow.proofs.ClashSaysMet.{if_stop, same_row, key_said, last_said}
 use Rattle.basic_toml_grow.proofs.row_clash.row_clash.Goals as goal
 
 pub returns-in-Some-clause-named : goal.returns-in-Some-clause-named
@@ -16,13 +15,13 @@ returns-in-Some-clause-named c =
     let key = c.in-Some.key.now in
     let there : at_row path (key_at key.offset c.as_str.result.now) ≡ at_row path (key_of key) =
     same_row refl refl c.as_str.ensures.value in
-    let said = subst (λ x. IfOk c.row-in-Some.result (λ clash. IsStop clash x)) there c.row-in-Some.ensures in
+    let said = rw there at c.row-in-Some.ensures in
     if_stop c.row-in-Some.result (at_row path (key_of key))
     (λ clash. SaysMet (map key_of keys) last c.args.met clash)
-    (λ clash is. subst (λ (met : Met). SaysMet (map key_of keys) last met clash) (sym c.in-Header.is)
-    (key_said keys c.args.offset c.args.last.now c.in-Header.left number c.saturating_sub-number.ensures path
-    c.in_ok-path-in-Header.ensures clash key
-    (key_there keys number key c.in-Some.ensures.lookup.3.0 c.in-Some.ensures.lookup.1) is)) said
+    (λ clash is. rw c.in-Header.is (key_said keys c.args.offset c.args.last.now c.in-Header.left number
+    c.saturating_sub-number.ensures path c.in_ok-path-in-Header.ensures clash key
+    (slice_get_read keys (length keys) number key refl c.in-Some.ensures.lookup.3.0 c.in-Some.ensures.lookup.1)
+    is)) said
 
 pub returns-in-None-clause-named : goal.returns-in-None-clause-named
 returns-in-None-clause-named c =
@@ -31,6 +30,6 @@ returns-in-None-clause-named c =
     let number = c.saturating_sub-number.result in
     let path = map string_bytes c.in_ok-path-in-Header.path.items in
     if_stop c.row-in-None.result (at_row path last) (λ clash. SaysMet (map key_of keys) last c.args.met clash)
-    (λ clash is. subst (λ (met : Met). SaysMet (map key_of keys) last met clash) (sym c.in-Header.is)
-    (last_said keys c.args.offset c.args.last.now c.in-Header.left number c.saturating_sub-number.ensures path
-    c.in_ok-path-in-Header.ensures clash (none_there keys number c.in-None.ensures.lookup.3) is)) c.row-in-None.ensures
+    (λ clash is. rw c.in-Header.is (last_said keys c.args.offset c.args.last.now c.in-Header.left number
+    c.saturating_sub-number.ensures path c.in_ok-path-in-Header.ensures clash
+    (slice_get_past keys number c.in-None.ensures.lookup.3) is)) c.row-in-None.ensures

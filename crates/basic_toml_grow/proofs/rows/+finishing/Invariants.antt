@@ -1,10 +1,7 @@
-use Rattle.std.proofs.Common.{◌≤◌, ◌+◌, ◌-◌, ◌*◌, length, map}
+use Rattle.std.proofs.Common.{◌≤◌, ◌+◌, ◌-◌, ◌*◌, length}
 use Rattle.std.specs.Vec.{vec_len, vec_capacity}
 use Rattle.basic_toml_value.specs.Nesting.{nesting_limit}
 use Rattle.basic_toml_read.specs.SectionView.{rows_seen, elements_view}
-use Rattle.basic_toml_grow.specs.Item.{child_trie, table_trie}
-use Rattle.basic_toml_grow.specs.Origins.{table_within}
-use Rattle.basic_toml_grow.proofs.Origins.OriginsLeft.{OriginsLeft, ElementsCome}
 use Rattle.basic_toml_grow.proofs.RowsLeft.{AreLeft}
 use Rattle.basic_toml_grow.proofs.ElementsLeft.{ElementsAreLeft}
 use Rattle.basic_toml_grow.proofs.rows.+finishing.Given as goal
@@ -37,16 +34,13 @@ decreases-children_of l = 7 * (nesting_limit - l.level) + 2
 abbrev pub invariant-enter_rows-loop-row : goal.invariant-enter_rows-loop-row
 invariant-enter_rows-loop-row l = record {
   within : length l.left ≤ length l.parents;
-  left : AreLeft (rows_seen l.parents l.initial.row-iterator) l.level (table_trie l.initial.table)
-      (rows_seen l.left l.row-iterator) (table_trie l.table);
-  come : OriginsLeft l.section (rows_seen l.parents l.initial.row-iterator) (table_within l.initial.table)
-      (rows_seen l.left l.row-iterator) (table_within l.table);
+  left : AreLeft l.section l.level (rows_seen l.parents l.initial.row-iterator) l.initial.table
+      (rows_seen l.left l.row-iterator) l.table;
 }
 
 abbrev pub invariant-children_of-loop-element : goal.invariant-children_of-loop-element
-invariant-children_of-loop-element l =
-    ElementsAreLeft (elements_view l.initial.element-iterator) l.level (map child_trie l.children.items)
-    (elements_view l.element-iterator)
-    × ElementsCome l.section (elements_view l.initial.element-iterator) l.children.items
-    (elements_view l.element-iterator)
-    × (vec_len l.children + length l.element-iterator ≤ vec_capacity l.children)
+invariant-children_of-loop-element l = record {
+  left : ElementsAreLeft l.section l.level (elements_view l.initial.element-iterator) l.children.items
+      (elements_view l.element-iterator);
+  room : vec_len l.children + length l.element-iterator ≤ vec_capacity l.children;
+}

@@ -1,5 +1,6 @@
-use Rattle.std.proofs.Common.{◌≡◌, ℕ, [], ◌∷◌, ◌++◌, ap, ◌∙◌, sym, Option, Some, List, subst, refl, length, map, ◌+◌, true}
+use Rattle.std.proofs.Common.{◌≡◌, ℕ, [], ◌∷◌, ◌++◌, ap, ◌∙◌, sym, Option, Some, subst, refl, map, true}
 use Rattle.std.proofs.Common.{rules, slice_get, option_map}
+use Rattle.std.proofs.lemmas.Result.{IfErr-weaker, IfOk-weaker}
 use Rattle.basic_toml_grammar.specs.Marks.{dotted}
 use Rattle.basic_toml_grammar.specs.Entering.{and_then}
 use Rattle.basic_toml_grammar.specs.Trie.{Trie, mark_here, put_row}
@@ -9,19 +10,17 @@ use Rattle.basic_toml_plain.proofs.WhatIsLeft.{nothing_left}
 use Rattle.basic_toml_grow.specs.Item.{child_trie, table_trie, empty_table, trie_before}
 use Rattle.basic_toml_grow.specs.Simple.{with_entries}
 use Rattle.basic_toml_grow.proofs.ItemTries.{table_child_trie, with_entries_put}
-use Rattle.basic_toml_grow.proofs.RowsEntered.{within, err_on, ok_on, made_there, same_key_entered}
+use Rattle.basic_toml_grow.proofs.RowsEntered.{within, made_there, same_key_entered}
 use Rattle.basic_toml_grow.proofs.RowsEntered.{changed_table, row_on, stands_in, step_made, table_after}
 use Rattle.basic_toml_grow.specs.Rows.{Enters}
 use Rattle.basic_toml_read.specs.KeyText.{key_text_bytes}
 use Rattle.basic_toml_read.specs.SectionView.{header_texts, key_of}
-use Rattle.basic_toml_read.specs.declared.section.Key as keys
 use Rattle.basic_toml_grow.specs.declared.item.Item.TheViews.{out-Item}
 use Rattle.basic_toml_grow.specs.declared.item.Table.{out-Table}
 use Rattle.basic_toml_grow.proofs.MetTellsStop.{row_told, extended_on, extended_refused, extended_before}
 use Rattle.basic_toml_grow.proofs.MetTellsStop.{dotted_before, dotted_table, named_refuses, other_refuses}
 use Rattle.basic_toml_grow.specs.Origins.{table_within, child_origins, with_more, row_origins, dotted_of, entry}
 use Rattle.basic_toml_grow.specs.Origins.{no_origins}
-use Rattle.basic_toml_grow.specs.Takes.{TakesRow}
 use Rattle.basic_toml_grow.proofs.Origins.RowsPlaceOrigins.{origins_put, comes_below, origins_on}
 use Rattle.basic_toml_grow.proofs.Origins.RowsPlaceOrigins.{dotted_within, child_of_table, table_extended}
 use Rattle.basic_toml_grow.proofs.rows.+leading.Goals as goal
@@ -29,14 +28,12 @@ use Rattle.basic_toml_grow.proofs.rows.+leading.Goals as goal
 -- a row of one key
 pub enter_row-returns-in-None : goal.enter_row-returns-in-None
 enter_row-returns-in-None t c =
-    subst (λ (ks : List keys.Key). TakesRow ks c.args.last.now c.args.child c.args.table.now c.enter_last.new.table
-    c.enter_last.result) (sym (nothing_left c.args.keys.now c.in-None.ensures.cases)) c.enter_last.ensures
+    rw (nothing_left c.args.keys.now c.in-None.ensures.cases) c.enter_last.ensures
 
 -- and one of more keys
 pub enter_row-returns-in-Some : goal.enter_row-returns-in-Some
 enter_row-returns-in-Some t c =
-    subst (λ (ks : List keys.Key). TakesRow ks c.args.last.now c.args.child c.args.table.now c.enter_dotted.new.table
-    c.enter_dotted.result) (sym c.in-Some.ensures.cases.0) c.enter_dotted.ensures
+    rw c.in-Some.ensures.cases.0 c.enter_dotted.ensures
 
 -- what stands at the first key: a table that was made for it, where it is new
 stands_there : (t : ℕ) (c : goal.enter_dotted-After-table-1 t)
@@ -44,18 +41,13 @@ stands_there : (t : ℕ) (c : goal.enter_dotted-After-table-1 t)
 stands_there t c =
     stands_in c.args.table.now c.enter_again.new.self c.in_ok-place.place.position c.value_mut-there.ensures.value
 
-is_empty : (t : ℕ) (c : goal.enter_dotted-After-table-1 t) → c.in_ok-place.place.is_new ≡ true
-    → child_trie c.value_mut-there.result.now ≡ empty_table
-is_empty t c new =
-    made_there c.value_mut-there.result.now (λ child. child_trie child ≡ empty_table) c.in_ok-place.ensures.entered
-    (stands_there t c) (λ child made. search rules) new
-
-comes_new : (t : ℕ) (c : goal.enter_dotted-After-table-1 t) → c.in_ok-place.place.is_new ≡ true
-    → child_origins c.value_mut-there.result.now ≡ entry (dotted_of c.args.child) no_origins
-comes_new t c new =
+fresh : (t : ℕ) (c : goal.enter_dotted-After-table-1 t) → c.in_ok-place.place.is_new ≡ true
+    → (child_trie c.value_mut-there.result.now ≡ empty_table)
+    × (child_origins c.value_mut-there.result.now ≡ entry (dotted_of c.args.child) no_origins)
+fresh t c new =
     made_there c.value_mut-there.result.now
-    (λ child. child_origins child ≡ entry (dotted_of c.args.child) no_origins) c.in_ok-place.ensures.entered
-    (stands_there t c) (λ child made. search rules) new
+    (λ d. (child_trie d ≡ empty_table) × (child_origins d ≡ entry (dotted_of c.args.child) no_origins))
+    c.in_ok-place.ensures.entered (stands_there t c) (λ d made. (search rules, search rules)) new
 
 pub enter_dotted-returns : goal.enter_dotted-returns
 enter_dotted-returns t c =
@@ -80,50 +72,40 @@ enter_dotted-returns t c =
           let g : Trie → Option Trie = λ t. and_then (mark_here dotted t) (λ t. put_row (rest ++ last ∷ []) d t) in
           let alike : g (trie_before p.is_new (child_trie there)) ≡ g (child_trie there) =
           ap (λ m. and_then m (λ t. put_row (rest ++ last ∷ []) d t))
-          (dotted_before p.is_new (child_trie there) (is_empty t c)) in
+          (dotted_before p.is_new (child_trie there) (λ new. (fresh t c new).0)) in
           let on = row_on key rest last d (table_trie table) in
           let put = changed_table table key new p entered there stands in
-          within (g (child_trie there)) (put_row (header_texts (row ∷ c.args.rest.now) ++ last ∷ []) d (table_trie table))
-          (child_trie now) (table_trie (with_entries mid after)) put c.extend.result
+          within (g (child_trie there))
+          (put_row (header_texts (row ∷ c.args.rest.now) ++ last ∷ []) d (table_trie table)) (child_trie now)
+          (table_trie (with_entries mid after)) put c.extend.result
           (on ∙ step_made table key new p entered there stands g ∙ ap (option_map put) alike)
           (ap table_trie same ∙ table_after table key new p entered there stands now)
           (c.extend.ensures.entered d is_leaf);
-      named = err_on _ _ c.extend.result
+      named = IfErr-weaker c.extend.result _ _
           (λ met told. λ d is_leaf.
-          row_told table key new p entered there stands met (key_of row) (map key_of c.args.rest.now) last d refl
-          (extended_before p.is_new (map key_of c.args.rest.now) last d (child_trie there) met (is_empty t c)
-          (told d is_leaf))) c.extend.ensures.named;
-      origins = ok_on _ _ c.extend.result
+          row_told table key new p entered there stands met row.offset (map key_of c.args.rest.now) last d
+          (extended_before p.is_new (map key_of c.args.rest.now) last d (child_trie there) met
+          (λ new. (fresh t c new).0) (told d is_leaf))) c.extend.ensures.named;
+      origins = IfOk-weaker c.extend.result _ _
           (λ x comes. origins_put table key there now new p entered stands (entry dots origins)
-          (comes_below p.is_new dots (child_origins there) (child_origins now) origins (comes_new t c) comes)
+          (comes_below p.is_new dots (child_origins there) (child_origins now) origins (λ new. (fresh t c new).1) comes)
           (with_entries mid after) same
           ∙ ap (with_more (table_within table)) (sym (origins_on key rest last dots below))) c.extend.ensures.origins;
     }
 
--- what dots extend
+-- what dots extend, and what refuses them
 pub extend-returns-then-deref : goal.extend-returns-then-deref
 unfolding out-Item out
 extend-returns-then-deref t c =
-    let keys = header_texts c.args.keys.now ++ c.args.last.now ∷ [] in
     let same : c.deref.result.now ≡ c.in-Table.table.value = c.deref.ensures ∙ rw c.in-Table.is refl in
-    let refuses = named_refuses c.args.there.now c.in-Table.table c.in-Table.is
-    (ap (λ t. (out-Table t).named) (sym same) ∙ c.if-deref.true) in record {
-      entered = λ d is_leaf. ap (λ m. and_then m (λ t. put_row keys d t)) refuses;
-      named = λ d is_leaf. extended_refused c.args.keys.now c.args.last.now d (child_trie c.args.there.now)
-          (length c.args.keys.now + 2) refl refuses;
-      origins = tt;
-    }
+    extended_refused c.args.keys.now c.args.last.now c.args.child c.args.there.now
+    (named_refuses c.args.there.now c.in-Table.table c.in-Table.is
+    (ap (λ t. (out-Table t).named) (sym same) ∙ c.if-deref.true))
 
 pub extend-returns-in_default : goal.extend-returns-in_default
 extend-returns-in_default t c =
-    let keys = header_texts c.args.keys.now ++ c.args.last.now ∷ [] in
-    let none = other_refuses c.args.there.now c.in_default.not-Table in record {
-      entered = λ d is_leaf. ap (λ m. and_then m (λ t. put_row keys d t)) none;
-      named = λ d is_leaf.
-          extended_refused c.args.keys.now c.args.last.now d (child_trie c.args.there.now) (length c.args.keys.now + 2)
-          refl none;
-      origins = tt;
-    }
+    extended_refused c.args.keys.now c.args.last.now c.args.child c.args.there.now
+    (other_refuses c.args.there.now c.in_default.not-Table)
 
 pub extend-returns-else-deref : goal.extend-returns-else-deref
 unfolding out-Item out
@@ -137,16 +119,17 @@ extend-returns-else-deref t c =
     let on = dotted_table there old now c.in-Table.is same
     (ap (λ t. (out-Table t).named) (same ∙ sym was) ∙ c.if-deref.false)
     ∙ ap (λ t. Some (table_trie t)) (sym c.deref_mut-in-Table.ensures.value) in
-    let within_is = ap table_within c.deref_mut-in-Table.ensures.value ∙ dotted_within now ∙ ap table_within same in record {
+    let within_is = ap table_within c.deref_mut-in-Table.ensures.value ∙ dotted_within now ∙ ap table_within same in
+    record {
       entered = λ d is_leaf. rw on (subst (λ (t : Trie). Enters (put_row keys d
           (table_trie c.deref_mut-in-Table.result.now)) t c.enter_row.result)
           (rw c.in-Table.is (sym (table_child_trie _ _ _))) (c.enter_row.ensures.entered d is_leaf));
-      named = err_on _ _ c.enter_row.result
+      named = IfErr-weaker c.enter_row.result _ _
           (λ met told. λ d is_leaf. extended_on (map key_of c.args.keys.now) c.args.last.now d (child_trie there)
           (table_trie c.deref_mut-in-Table.result.now) met on (told d is_leaf)) c.enter_row.ensures.named;
-      origins = ok_on _ _ c.enter_row.result
+      origins = IfOk-weaker c.enter_row.result _ _
           (λ x comes. (rw c.in-Table.is (child_of_table _ there.start there.section))
           ∙ table_extended there old c.deref_mut-in-Table.result.now c.enter_row.new.table
-          (row_origins keys (dotted_of c.args.child) (child_origins c.args.child)) (dotted_of c.args.child) c.in-Table.is
-          within_is comes) c.enter_row.ensures.origins;
+          (row_origins keys (dotted_of c.args.child) (child_origins c.args.child)) (dotted_of c.args.child)
+          c.in-Table.is within_is comes) c.enter_row.ensures.origins;
     }

@@ -99,7 +99,7 @@ returns c =
     let left = c.loop-own.own-iterator.rest in
     let parted = c.into_parts-rows.ensures in
     let all = all_tables rows sections last whole parted.plain
-    (ap₂ (λ (ts : List SectionTable) (t : SectionTable). (ts, t)) parted.earlier parted.latest ∙ c.take.ensures) in
+    (ap₂ (λ (ts : List SectionTable) (t : SectionTable). (ts, t)) parted.earlier parted.latest ∙ c.take.ensures.taken) in
     let made = all_made c.loop-own.earlier.items last c.loop-own.rows left.items c.in_ok-latest.latest whole
     (nil_from_length left.items (omega (arith, c.in-None.ensures.steps.0, left.ok.0)))
     (c.loop-own.invariant.made

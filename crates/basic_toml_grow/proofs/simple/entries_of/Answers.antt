@@ -37,7 +37,8 @@ loop-preserved c =
     let next : c.args.count - c.loop.counter ≡ suc (c.args.count - (c.loop.counter + 1)) =
     omega (arith, c.loop-test.true) in
     let shorter = ap length first in
-    let key : text_bytes c.in_ok-key.key ≡ key_of c.in-Some.row = c.in_ok-key.ensures.ok ∙ c.as_str.ensures.value in record {
+    let key : text_bytes c.in_ok-key.key ≡ key_of c.in-Some.row = c.in_ok-key.ensures.ok ∙ c.as_str.ensures.value in
+    record {
       entered = mapped_next pair_seen (entry_of c.args.section) c.loop.entries.items c.push_reserved.new.self.items
           (take (c.args.count - c.loop.counter) c.loop.rows)
           (take (c.args.count - (c.loop.counter + 1)) c.next.new.self) (take c.args.count c.args.rows.now)

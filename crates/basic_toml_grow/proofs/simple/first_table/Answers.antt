@@ -1,28 +1,22 @@
-use Rattle.std.proofs.Common.{List, ℕ, ap, sym, ◌∙◌, subst, IsTrue, length, take, arith, nat_le, true, false}
+use Rattle.std.proofs.Common.{List, ℕ, map, ap, ◌∙◌, length, take, arith, nat_le, true, false}
 use Rattle.std.proofs.lemmas.Bool.{and_parts}
 use Rattle.std.proofs.lemmas.List.{length-map}
 use Rattle.basic_toml_index.specs.Index.{few}
-use Rattle.basic_toml_index.specs.Keys.{are_distinct}
-use Rattle.basic_toml_value.specs.Pairs.{keys_of}
-use Rattle.basic_toml_value.proofs.KeysSeen.{keys_of-seen}
 use Rattle.basic_toml_plain.specs.Plain.{are_simple, key_of}
 use Rattle.basic_toml_plain.proofs.SimpleKeys.{few_are_simple, keys_differ}
 use Rattle.basic_toml_grow.specs.declared.item.Item.TheViews.{roll-Table}
 use Rattle.basic_toml_grow.specs.declared.item.Child.{Child}
 use Rattle.basic_toml_grow.specs.declared.item.Table.{Table}
-use Rattle.basic_toml_grow.proofs.SimpleRows.{entry_keys}
+use Rattle.basic_toml_grow.proofs.SimpleRows.{entry_texts}
 use Rattle.basic_toml_grow.proofs.simple.first_table.Goals as goal
 
 pub from_parts-requires : goal.from_parts-requires
 from_parts-requires c =
     let rows = take c.args.own.count c.args.rows.now in
-    let keys = sym (keys_of-seen c.in_ok-entries.entries.items) ∙ ap keys_of c.in_ok-entries.ensures.entries
-    ∙ entry_keys c.args.own.section rows in
-    let count = ap length keys ∙ length-map rows key_of in
     let within = (and_parts (nat_le (length rows) few) (are_simple 0 rows) c.requires.simple).0 in
-    c.none.ensures _ (subst (λ (ks : List (List ℕ)). IsTrue (are_distinct ks)) (sym keys)
-    (keys_differ 0 rows (few_are_simple 0 rows c.requires.simple)))
-    (grind (arith, count, within))
+    rw (entry_texts c.args.own.section rows c.in_ok-entries.entries.items c.in_ok-entries.ensures.entries)
+    (c.none.ensures (map key_of rows) (keys_differ 0 rows (few_are_simple 0 rows c.requires.simple))
+    (grind (arith, length-map rows key_of, within)))
 
 pub returns : goal.returns
 returns c =

@@ -1,11 +1,8 @@
-use Rattle.std.proofs.Common.{◌≡◌, List, ℕ, ap, sym, ◌∙◌, subst, IsTrue, length, take, arith}
+use Rattle.std.proofs.Common.{◌≡◌, map, ap, ◌∙◌, length, take, arith}
 use Rattle.std.proofs.lemmas.List.{length-map, take_all, drop_all}
-use Rattle.basic_toml_index.specs.Keys.{are_distinct}
-use Rattle.basic_toml_value.specs.Pairs.{keys_of}
-use Rattle.basic_toml_value.proofs.KeysSeen.{keys_of-seen}
 use Rattle.basic_toml_plain.specs.Plain.{key_of, are_all_plain}
 use Rattle.basic_toml_grow.specs.Simple.{entries_of, with_entries}
-use Rattle.basic_toml_grow.proofs.SimpleRows.{entry_keys}
+use Rattle.basic_toml_grow.proofs.SimpleRows.{entry_texts}
 use Rattle.basic_toml_grow.proofs.simple.with_rows.Goals as goal
 
 pub entries_of-requires : goal.entries_of-requires
@@ -22,11 +19,9 @@ from_parts-requires c =
     let all : take c.len-count.result c.drain-left.result ≡ rows =
     ap (take c.len-count.result) left
     ∙ take_all c.len-count.result rows (omega (arith, c.len-count.ensures, c.args.rows.now.ok.0)) in
-    let keys = sym (keys_of-seen c.in_ok-entries.entries.items) ∙ ap keys_of c.in_ok-entries.ensures.entries
-    ∙ ap (λ rs. keys_of (entries_of c.args.section rs)) all ∙ entry_keys c.args.section rows in
-    let count = ap length keys ∙ length-map rows key_of in
-    c.none.ensures _ (subst (λ (ks : List (List ℕ)). IsTrue (are_distinct ks)) (sym keys) c.requires.distinct)
-    (omega (arith, count, c.requires.few))
+    rw (entry_texts c.args.section rows c.in_ok-entries.entries.items
+    (c.in_ok-entries.ensures.entries ∙ ap (entries_of c.args.section) all))
+    (c.none.ensures (map key_of rows) c.requires.distinct (omega (arith, length-map rows key_of, c.requires.few)))
 
 pub into_room-requires : goal.into_room-requires
 into_room-requires c =

@@ -1,4 +1,4 @@
-use Rattle.std.proofs.Common.{◌≡◌, true, map, refl, ap, sym, ◌∙◌, Vec, Box, Global}
+use Rattle.std.proofs.Common.{◌≡◌, true, map, refl, ap, sym, ◌∙◌, rules, Vec, Box, Global}
 use denote.Hole.Carrier.{out}
 use Rattle.basic_toml_plain.specs.PlainTables.{SectionTables, have_few_simple}
 use Rattle.basic_toml_grow.specs.declared.item.Item as items
@@ -25,34 +25,37 @@ stood c =
     let same = c.into_rows.ensures.rows ∙ c.replace-table.ensures.value ∙ rw c.in-Section.is refl in
     c.in-Section.is ∙ ap items.Section (sym same)
 
-pub returns-in_ok-table-in-Section-clause-trie : goal.returns-in_ok-table-in-Section-clause-trie
-returns-in_ok-table-in-Section-clause-trie c =
-    let s = c.args.self.now.section in
-    let rows = c.into_rows.result.items in
-    table_child_trie c.args.self.now.start s c.in_ok-table-in-Section.table
-    ∙ ap table_trie c.in_ok-table-in-Section.ensures
-    ∙ sym (section_trie s rows c.into_rows.ensures.plain)
-    ∙ sym (child_item_trie c.args.self.now ∙ ap item_trie (stood c))
-
-pub returns-in_ok-table-in-Section-clause-origins : goal.returns-in_ok-table-in-Section-clause-origins
-returns-in_ok-table-in-Section-clause-origins c =
+pub returns-in_ok-table-in-Section : goal.returns-in_ok-table-in-Section
+returns-in_ok-table-in-Section c =
     let at = c.args.self.now.start in
     let s = c.args.self.now.section in
     let rows = c.into_rows.result.items in
-    child_of_table c.in_ok-table-in-Section.table at s
-    ∙ ap (λ t. of_table at s (table_within t)) c.in_ok-table-in-Section.ensures
-    ∙ sym (section_origins s rows c.into_rows.ensures.plain at)
-    ∙ sym (child_seen c.args.self.now ∙ ap (λ i. item_origins i at s) (stood c))
+    let plain = c.into_rows.ensures.plain in
+    let made = c.in_ok-table-in-Section in
+    record {
+      trie =
+          table_child_trie at s made.table
+          ∙ ap table_trie made.ensures
+          ∙ sym (section_trie s rows plain)
+          ∙ sym (child_item_trie c.args.self.now ∙ ap item_trie (stood c));
+      origins =
+          child_of_table made.table at s
+          ∙ ap (λ t. of_table at s (table_within t)) made.ensures
+          ∙ sym (section_origins s rows plain at)
+          ∙ sym (child_seen c.args.self.now ∙ ap (λ i. item_origins i at s) (stood c));
+      unfolded = search (rules, items.the_lemmas);
+      others = λ e. search (rules, items.the_lemmas, e, c.in-Section.is);
+    }
 
 -- the array that stood there
-record Unfolds (b : Box SectionTables Global) (made : Box (Vec Table Global × Table) Global) : Type 0 where
+record TablesMade (b : Box SectionTables Global) (made : Box (Vec Table Global × Table) Global) : Type 0 where
   earlier : made.value.0.items ≡ map table_of b.value.0
   latest : made.value.1 ≡ table_of b.value.1
   simple : have_few_simple b.value ≡ true
 
-unfolds : (c : Joined-self-4) → Unfolds c.in-Sections.tables c.in_ok-tables-in-Sections.tables
+tables_made : (c : Joined-self-4) → TablesMade c.in-Sections.tables c.in_ok-tables-in-Sections.tables
 unfolding out-Item out
-unfolds c =
+tables_made c =
     let made = c.in_ok-tables-in-Sections in
     let same = c.deref_mut.ensures.value ∙ rw c.in-Sections.is refl in record {
       earlier = made.ensures.earlier ∙ ap (λ (ts : SectionTables). map table_of ts.0) same;
@@ -60,22 +63,22 @@ unfolds c =
       simple = ap have_few_simple (sym same) ∙ made.ensures.simple;
     }
 
-pub returns-in_ok-tables-in-Sections-clause-trie : goal.returns-in_ok-tables-in-Sections-clause-trie
-returns-in_ok-tables-in-Sections-clause-trie c =
-    let b = c.in-Sections.tables in
-    let made = c.in_ok-tables-in-Sections.tables in
-    let are = unfolds c in
-    holding_trie c.args.self.now (items.Tables made)
-    ∙ unfolded_trie b made are.earlier are.latest are.simple
-    ∙ sym (child_item_trie c.args.self.now ∙ ap item_trie c.in-Sections.is)
-
-pub returns-in_ok-tables-in-Sections-clause-origins : goal.returns-in_ok-tables-in-Sections-clause-origins
-returns-in_ok-tables-in-Sections-clause-origins c =
+pub returns-in_ok-tables-in-Sections : goal.returns-in_ok-tables-in-Sections
+returns-in_ok-tables-in-Sections c =
     let at = c.args.self.now.start in
     let s = c.args.self.now.section in
     let b = c.in-Sections.tables in
     let made = c.in_ok-tables-in-Sections.tables in
-    let are = unfolds c in
-    holding_origins c.args.self.now (items.Tables made)
-    ∙ unfolded_origins b made are.earlier are.latest are.simple at s
-    ∙ sym (child_seen c.args.self.now ∙ ap (λ i. item_origins i at s) c.in-Sections.is)
+    let are = tables_made c in
+    record {
+      trie =
+          holding_trie c.args.self.now (items.Tables made)
+          ∙ unfolded_trie b made are.earlier are.latest are.simple
+          ∙ sym (child_item_trie c.args.self.now ∙ ap item_trie c.in-Sections.is);
+      origins =
+          holding_origins c.args.self.now (items.Tables made)
+          ∙ unfolded_origins b made are.earlier are.latest are.simple at s
+          ∙ sym (child_seen c.args.self.now ∙ ap (λ i. item_origins i at s) c.in-Sections.is);
+      unfolded = search (rules, items.the_lemmas);
+      others = λ e. search (rules, items.the_lemmas, e, c.in-Sections.is);
+    }
