@@ -1,6 +1,6 @@
 -- The headers of sections, as they are kept and as contracts see them.
-use Rattle.std.proofs.Common.{◌≡◌, ◌≤◌, ◌<◌, ◌-◌, ℕ, zero, suc, List, [], ◌∷◌, ◌++◌, length, map, take, drop}
-use Rattle.std.proofs.Common.{Some, refl, ap, sym, ◌∙◌, arith, rules, length-append}
+use Rattle.std.proofs.Common.{◌≡◌, ◌≤◌, ◌<◌, ◌-◌, ℕ, zero, suc, List, [], ◌∷◌, ◌++◌, length, map, drop}
+use Rattle.std.proofs.Common.{Some, refl, ap, arith, rules, length-append}
 use Rattle.std.specs.Prelude.{slice_get, slice_index_or, slice_range}
 use native.Mathlib.Numerals.{unary_clauses}
 use Rattle.std.proofs.lemmas.List.{take-append-le, drop-append-le, length-drop, take_all}
@@ -18,26 +18,17 @@ count_from from [] keys = refl
 count_from from (h ∷ hs) keys = ap suc (count_from h.end hs keys)
 
 -- the keys of a header begin where those before them end
-begins_after : (from : ℕ) (hs : List Head) (n : ℕ) (d : Head) → suc n < length hs
-    → (slice_index_or hs n d).end ≡ (range_of from hs (suc n)).0
-begins_after from [] n d within = absurd (omega (arith, within))
-begins_after from (h ∷ []) n d within = absurd (omega (arith, within))
-begins_after from (h ∷ i ∷ hs) zero d within = refl
-begins_after from (h ∷ i ∷ hs) (suc n) d within = begins_after h.end (i ∷ hs) n d (omega (arith, within))
+range_after : (from : ℕ) (hs : List Head) (n : ℕ) (d h : Head) → slice_get hs (suc n) ≡ Some h
+    → ((slice_index_or hs n d).end, h.end) ≡ range_of from hs (suc n)
+range_after from (g ∷ i ∷ hs) zero d h there = let same : i ≡ h = cc in rw same refl
+range_after from (g ∷ i ∷ hs) (suc n) d h there = range_after g.end (i ∷ hs) n d h there
+range_after from hs n d h there = absurd (cc)
 
-ends_at : (from : ℕ) (hs : List Head) (n : ℕ) (h : Head) → slice_get hs n ≡ Some h → (range_of from hs n).1 ≡ h.end
-ends_at from [] n h there = absurd (cc)
-ends_at from (g ∷ hs) zero h there = cc
-ends_at from (g ∷ hs) (suc n) h there = ends_at g.end hs n h there
-
-pub range_past_first : (hs : List Head) (n : ℕ) (d h : Head) → 0 < n → n < length hs → slice_get hs n ≡ Some h
+pub range_past_first : (hs : List Head) (n : ℕ) (d h : Head) → 0 < n → slice_get hs n ≡ Some h
     → ((slice_index_or hs (n - 1) d).end, h.end) ≡ range_of 0 hs n
-range_past_first hs zero d h some within there = absurd (omega (arith, some))
-range_past_first hs (suc n) d h some within there =
-    let same : suc n - 1 ≡ n = omega arith in
-    let begin : (slice_index_or hs (suc n - 1) d).end ≡ (range_of 0 hs (suc n)).0 =
-    ap (λ n. (slice_index_or hs n d).end) same ∙ begins_after 0 hs n d within in
-    ap (λ begin. (begin, h.end)) begin ∙ ap (λ end. ((range_of 0 hs (suc n)).0, end)) (sym (ends_at 0 hs (suc n) h there))
+range_past_first hs zero d h some there = absurd (omega (arith, some))
+range_past_first hs (suc n) d h some there =
+    let same : suc n - 1 ≡ n = omega arith in rw same (range_after 0 hs n d h there)
 
 -- no header is past the last one
 pub no_range : (from : ℕ) (hs : List Head) (n : ℕ) → length hs ≤ n → range_of from hs n ≡ (0, 0)
@@ -70,19 +61,13 @@ pub one_more : (from : ℕ) (hs : List Head) (keys more : List code.Key) (h : He
     → headers_from from (hs ++ h ∷ []) (keys ++ more)
     ≡ headers_from from hs keys ++ (h.at, map key_of more) ∷ []
 one_more from [] keys more h rise end =
-    let last : slice_range (keys ++ more) from h.end ≡ more =
-    ap (λ n. slice_range (keys ++ more) n h.end) rise
-    ∙ ap (take (h.end - length keys)) (drop-append_seam keys more)
-    ∙ take_all (h.end - length keys) more (omega (arith, end, length-append keys more)) in
-    ap (λ ks. (h.at, map key_of ks) ∷ []) last
+    let last = take_all (h.end - length keys) more (omega (arith, end, length-append keys more)) in
+    rw (rise, drop-append_seam keys more, last) refl
 one_more from (g ∷ hs) keys more h rise end =
     let within = rise_to g.end hs (length keys) rise.1 in
-    let kept : slice_range (keys ++ more) from g.end ≡ slice_range keys from g.end =
-    ap (take (g.end - from)) (drop-append-le from keys more (omega (arith, rise.0, within)))
-    ∙ take-append-le (g.end - from) (drop from keys) more (omega (arith, length-drop from keys, within)) in
-    ap (λ ks. (g.at, map key_of ks) ∷ headers_from g.end (hs ++ h ∷ []) (keys ++ more)) kept
-    ∙ ap (λ headers. (g.at, map key_of (slice_range keys from g.end)) ∷ headers)
-    (one_more g.end hs keys more h rise.1 end)
+    let begun = drop-append-le from keys more (omega (arith, rise.0, within)) in
+    let kept = take-append-le (g.end - from) (drop from keys) more (omega (arith, length-drop from keys, within)) in
+    rw (begun, kept, one_more g.end hs keys more h rise.1 end) refl
 
 pub rises_on : (from : ℕ) (hs : List Head) (all : ℕ) (h : Head) → EndsRise from hs all → all ≤ h.end
     → EndsRise from (hs ++ h ∷ []) h.end

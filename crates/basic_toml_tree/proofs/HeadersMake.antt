@@ -1,16 +1,15 @@
 -- What headers make, by the trie of the sections: a table that a header names or passes through, and an array.
-use Rattle.std.proofs.Common.{◌≡◌, ◌⊎◌, inl, inr, ℕ, zero, suc, Bool, true, false, List, [], ◌∷◌, ◌++◌, refl, ap}
-use Rattle.std.proofs.Common.{sym, ◌∙◌, subst, map, length, drop, Option, Some, None}
-use Rattle.std.specs.Prelude.{◌&&◌, ◌||◌, if◌then◌else◌}
+use Rattle.std.proofs.Common.{◌≡◌, ◌⊎◌, inl, inr, ℕ, zero, suc, Bool, true, false, List, [], ◌∷◌, ◌++◌, refl, ap, arith}
+use Rattle.std.proofs.Common.{sym, ◌∙◌, map, length, drop, Option, Some, None}
+use Rattle.std.specs.Prelude.{◌&&◌, ◌||◌}
+use Rattle.std.proofs.Math.Seq.{drop-append_seam}
 use Rattle.std.specs.List.{list_any}
-use Rattle.std.proofs.lemmas.Bool.{false≢true, and_parts, and_from, or_cases, or_left, or_right, cases_Bool}
+use Rattle.std.proofs.lemmas.Bool.{false≢true, and_parts, or_cases, or_left, or_right, cases_Bool}
 use Rattle.basic_toml_grammar.specs.Sections.{Rows, Section}
-use Rattle.basic_toml_grammar.specs.Steps.{Step, key, number, Path, step_eq, begins, path_eq}
-use Rattle.basic_toml_grammar.specs.RowClash.{has_row_clash}
+use Rattle.basic_toml_grammar.specs.Steps.{Step, key, number, Path, step_eq, begins}
 use Rattle.basic_toml_grammar.specs.IndexedPath.{located}
 use Rattle.basic_toml_grammar.specs.Placed.{Placed, step_into, adds_element, path_of, placed}
-use Rattle.basic_toml_grammar.specs.Marks.{MarkKind, passed, by_latest, named, added, dotted, valued, Mark, mark}
-use Rattle.basic_toml_grammar.specs.Marks.{marks, all_marks}
+use Rattle.basic_toml_grammar.specs.Marks.{MarkKind, passed, by_latest, named, added, Mark, mark, marks, all_marks}
 use Rattle.basic_toml_grammar.specs.Nodes.{is_number, is_made, is_array}
 use Rattle.basic_toml_grammar.specs.Standing.{Standing, table, array, fits, taken, standing_at, take_all}
 use Rattle.basic_toml_grammar.specs.Entering.{enter_all}
@@ -28,60 +27,31 @@ use Rattle.basic_toml_grow.proofs.ItemsStand.{stands_array}
 use Rattle.basic_toml_tree.specs.Outer.{stands_made}
 
 -- what a mark leaves, whatever comes later: a table that a header passed or named, and an array with an element
-abbrev of_table : Option Standing → Bool
-of_table (Some (table p n d)) = p || n
-of_table o = false
-
-abbrev of_array : Option Standing → Bool
-of_array (Some (array (suc n))) = true
-of_array o = false
+abbrev lasts : (is_array : Bool) → Option Standing → Bool
+lasts false (Some (table p n d)) = p || n
+lasts true (Some (array (suc n))) = true
+lasts a o = false
 
 abbrev keeps : MarkKind → Option Standing → Bool
-keeps passed o = of_table o
-keeps named o = of_table o
-keeps added o = of_array o
+keeps passed o = lasts false o
+keeps named o = lasts false o
+keeps added o = lasts true o
 keeps k o = true
 
-table_stays : (o : Option Standing) (m : MarkKind) → fits m o ≡ true → of_table o ≡ true
-    → of_table (Some (taken m o)) ≡ true
-table_stays (Some (table p n d)) passed f h = refl
-table_stays (Some (table p n d)) named f h = or_right p true refl
-table_stays (Some (table p n d)) dotted f h = h
-table_stays (Some (table p n d)) by_latest f h = h
-table_stays (Some (table p n d)) m f h = absurd (false≢true f)
-table_stays o m f h = absurd (false≢true h)
-
-array_stays : (o : Option Standing) (m : MarkKind) → fits m o ≡ true → of_array o ≡ true
-    → of_array (Some (taken m o)) ≡ true
-array_stays (Some (array (suc n))) added f h = refl
-array_stays (Some (array (suc n))) by_latest f h = refl
-array_stays (Some (array (suc n))) m f h = absurd (false≢true f)
-array_stays o m f h = absurd (false≢true h)
-
-kept_on : (k m : MarkKind) (o : Option Standing) → fits m o ≡ true → keeps k o ≡ true → keeps k (Some (taken m o)) ≡ true
-kept_on passed m o f h = table_stays o m f h
-kept_on named m o f h = table_stays o m f h
-kept_on added m o f h = array_stays o m f h
-kept_on k m o f h = refl
+kept_on : (k m : MarkKind) (o : Option Standing) → fits m o ≡ true → keeps k o ≡ true
+    → keeps k (Some (taken m o)) ≡ true
+kept_on k m o f h = grind arith
 
 kept_new : (k : MarkKind) (o : Option Standing) → keeps k (Some (taken k o)) ≡ true
-kept_new passed (Some (table p n d)) = refl
-kept_new named (Some (table p n d)) = or_right p true refl
-kept_new added (Some (array n)) = refl
-kept_new k o = refl
+kept_new k o = grind arith
 
 abbrev Keeps : List Mark → Type 0
 Keeps st = (p : Path) (k : MarkKind) → Among (mark p k) st → keeps k (standing_at st p) ≡ true
 
 keeps_more : (m : Mark) (st : List Mark) → Keeps st → fits m.kind (standing_at st m.path) ≡ true → Keeps (m ∷ st)
 keeps_more m st h f p k first = rw (paths_same p) (kept_new k (standing_at st p))
-keeps_more m st h f p k (next a) = elim (cases_Bool (path_eq m.path p)) [
-  | inl e ↦
-      let here : fits m.kind (standing_at st p) ≡ true =
-      subst (λ q. fits m.kind (standing_at st q) ≡ true) (paths_are m.path p e) f in
-      rw e (kept_on k m.kind (standing_at st p) here (h p k a))
-  | inr e ↦ rw e (h p k a)
-]
+keeps_more m st h f p k (next a) =
+    grind (arith, paths_are m.path p, kept_on k m.kind (standing_at st p), h p k a)
 
 -- marks that were taken: they are kept, and there are no others
 record Ran (st ms after : List Mark) : Type 0 where
@@ -134,59 +104,44 @@ pub of_any : {A : Type 0} {x : A} {xs : List A} (f : A → Bool) → Among x xs 
 of_any f first e = or_left _ _ e
 of_any f (next a) e = or_right _ _ (of_any f a e)
 
+-- what a header leaves at an array
+abbrev of_array : MarkKind → Bool
+of_array added = true
+of_array by_latest = true
+of_array k = false
+
 -- what a header says on its way: at each beginning of its path something, and before a number of an array
 record SaysSome (e : Option ℕ) (rs : Rows) (t q : Path) : Type 0 where
   kind : MarkKind
   says : Says e rs t q kind
   header : is_header kind ≡ true
+  array : is_number (drop (length q) (t ++ step_into e)) ≡ true → of_array kind ≡ true
 
 way_said : (e : Option ℕ) (rs : Rows) (t q : Path) → begins q (t ++ step_into e) ≡ true → SaysSome e rs t q
-way_said None rs [] [] b = record { kind = named; says = names; header = refl }
+way_said None rs [] [] b = record { kind = named; says = names; header = refl; array = λ n. n }
 way_said None rs [] (s ∷ q) b = absurd (false≢true b)
-way_said (Some n) rs [] [] b = record { kind = added; says = adds; header = refl }
+way_said (Some n) rs [] [] b = record { kind = added; says = adds; header = refl; array = λ n. n }
 way_said (Some n) rs [] (s ∷ []) b =
     let same : s ≡ number n = step_is s (number n) (and_parts _ _ b).0 in
-    rw same (record { kind = named; says = into names; header = refl })
+    rw same (record { kind = named; says = into names; header = refl; array = λ n. n })
 way_said (Some n) rs [] (s ∷ r ∷ q) b = absurd (false≢true (and_parts _ _ b).1)
-way_said e rs (key k ∷ t) [] b = record { kind = passed; says = passes; header = refl }
-way_said e rs (number n ∷ t) [] b = record { kind = by_latest; says = goes_by; header = refl }
+way_said e rs (key k ∷ t) [] b = record { kind = passed; says = passes; header = refl; array = λ n. n }
+way_said e rs (number n ∷ t) [] b = record { kind = by_latest; says = goes_by; header = refl; array = λ n. n }
 way_said e rs (s ∷ t) (r ∷ q) b =
     let both = and_parts (step_eq r s) (begins q (t ++ step_into e)) b in
     let same : r ≡ s = step_is r s both.0 in
     let x = way_said e rs t q both.1 in
-    rw same (record { kind = x.kind; says = on x.says; header = x.header })
+    rw same (record { kind = x.kind; says = on x.says; header = x.header; array = x.array })
 
 abbrev goes_into : Path → Path → Bool
 goes_into q path = begins q path && is_number (drop (length q) path)
-
-number_said : (e : Option ℕ) (rs : Rows) (t q : Path) → goes_into q (t ++ step_into e) ≡ true
-    → Says e rs t q added ⊎ Says e rs t q by_latest
-number_said None rs [] [] b = absurd (false≢true b)
-number_said None rs [] (s ∷ q) b = absurd (false≢true b)
-number_said (Some n) rs [] [] b = inl adds
-number_said (Some n) rs [] (s ∷ []) b = absurd (false≢true (and_parts _ _ b).1)
-number_said (Some n) rs [] (s ∷ r ∷ q) b = absurd (false≢true (and_parts _ _ (and_parts _ _ b).0).1)
-number_said e rs (key k ∷ t) [] b = absurd (false≢true b)
-number_said e rs (number n ∷ t) [] b = inr goes_by
-number_said e rs (s ∷ t) (r ∷ q) b =
-    let two = and_parts (begins (r ∷ q) (s ∷ t ++ step_into e)) (is_number (drop (length q) (t ++ step_into e))) b in
-    let both = and_parts (step_eq r s) (begins q (t ++ step_into e)) two.0 in
-    let same : r ≡ s = step_is r s both.0 in
-    elim (number_said e rs t q (and_from _ _ both.1 two.1)) [
-      | inl x ↦ rw same (inl (on x))
-      | inr x ↦ rw same (inr (on x))
-    ]
 
 says_added : (n : ℕ) (rs : Rows) (t : Path) → Says (Some n) rs t t added
 says_added n rs [] = adds
 says_added n rs (s ∷ t) = on (says_added n rs t)
 
 element_there : (p : Path) (n : ℕ) → goes_into p (p ++ number n ∷ []) ≡ true
-element_there p n = rw (begins_itself p (number n ∷ [])) (go p)
-  where
-    go : (p : Path) → is_number (drop (length p) (p ++ number n ∷ [])) ≡ true
-    go [] = refl
-    go (s ∷ p) = go p
+element_there p n = rw (begins_itself p (number n ∷ []), drop-append_seam p (number n ∷ [])) refl
 
 mapped_any : {A B : Type 0} (f : B → Bool) (g : A → B) (xs : List A)
     → list_any f (map g xs) ≡ list_any (λ x. f (g x)) xs
@@ -201,66 +156,47 @@ same_paths f ss =
 -- a list of sections that was entered
 module _ (ss : List Section) (st : List Mark) (e : enter_all ss [] ≡ Some st) where
   all_taken : take_all [] (all_marks (placed ss)) ≡ Some st
-  all_taken = go (has_row_clash ss) (sym (enter_all_grows ss [] [] (λ p. refl) (λ p. refl)) ∙ e)
-    where
-      go : (b : Bool) → (if b then None else take_all [] (all_marks (placed ss))) ≡ Some st
-          → take_all [] (all_marks (placed ss)) ≡ Some st
-      go true h = cc
-      go false h = h
+  all_taken = grind (arith, enter_all_grows ss [] [] (λ p. refl) (λ p. refl), e)
 
   run : Ran [] (all_marks (placed ss)) st
   run = ran [] (all_marks (placed ss)) st (λ p k a. elim a [ ]) all_taken
 
-  kept : {p : Path} {k : MarkKind} (l : Placed) → Among l (placed ss) → Says l.element l.rows l.target p k
-      → keeps k (standing_at st p) ≡ true
-  kept {p = p} {k = k} l a says =
-      run.keep p k (run.joins (among_all (placed ss) a (marked l.element l.rows l.target says)))
-
+  -- a section that says something of a path
   record Saying (p : Path) (k : MarkKind) : Type 0 where
     place : Placed
     among : Among place (placed ss)
     says : Says place.element place.rows place.target p k
 
+  kept : {p : Path} {k : MarkKind} → Saying p k → keeps k (standing_at st p) ≡ true
+  kept {p = p} {k = k} x =
+      let l = x.place in
+      run.keep p k (run.joins (among_all (placed ss) x.among (marked l.element l.rows l.target x.says)))
+
   saying : {p : Path} {k : MarkKind} → Among (mark p k) st → Saying p k
-  saying {p = p} {k = k} a = go (run.made a)
-    where
-      go : Among (mark p k) [] ⊎ Among (mark p k) (all_marks (placed ss)) → Saying p k
-      go (inl a) = elim a [ ]
-      go (inr a) = let r = among_one (placed ss) a in
-          record { place = r.0; among = r.1; says = said r.0.element r.0.rows r.0.target r.2 }
+  saying a = elim (run.made a) [
+    | inl none ↦ elim none [ ]
+    | inr a ↦
+        let r = among_one (placed ss) a in
+        record { place = r.0; among = r.1; says = said r.0.element r.0.rows r.0.target r.2 }
+  ]
 
   added_there : {p : Path} → Saying p by_latest → Added (placed ss) p
   added_there {p = p} x = latest_added (placed ss) [] ss (λ k a. elim a [ ]) (λ k a. a) x.place x.among p x.says
 
-  array_kept : {p : Path} → Added (placed ss) p → keeps added (standing_at st p) ≡ true
+  array_kept : {p : Path} → Added (placed ss) p → lasts true (standing_at st p) ≡ true
   array_kept {p = p} k =
-      let here : Says k.0.element k.0.rows k.0.target p added =
-      rw (k.3, k.4) (says_added k.1 k.0.rows p) in
-      kept k.0 k.2 here
+      let here : Says k.0.element k.0.rows k.0.target p added = rw (k.3, k.4) (says_added k.1 k.0.rows p) in
+      kept (record { place = k.0; among = k.2; says = here })
 
-  array_stands : (o : Option Standing) → of_array o ≡ true → stands_array o ≡ true
-  array_stands (Some (array n)) h = refl
-  array_stands o h = absurd (false≢true h)
+  lasts_made : (a : Bool) (o : Option Standing) → lasts a o ≡ true → stands_made o ≡ true
+  lasts_made a o h = grind arith
 
-  array_made : (o : Option Standing) → stands_array o ≡ true → stands_made o ≡ true
-  array_made (Some (array n)) h = refl
-  array_made o h = absurd (false≢true h)
-
-  table_made : (o : Option Standing) → of_table o ≡ true → stands_made o ≡ true
-  table_made (Some (table p n d)) h = h
-  table_made o h = absurd (false≢true h)
-
-  header_made : {p : Path} (k : MarkKind) → is_header k ≡ true → (l : Placed) → Among l (placed ss)
-      → Says l.element l.rows l.target p k → stands_made (standing_at st p) ≡ true
-  header_made {p = p} passed h l a says = table_made (standing_at st p) (kept l a says)
-  header_made {p = p} named h l a says = table_made (standing_at st p) (kept l a says)
-  header_made {p = p} added h l a says =
-      array_made (standing_at st p) (array_stands (standing_at st p) (kept l a says))
-  header_made {p = p} by_latest h l a says =
-      array_made (standing_at st p) (array_stands (standing_at st p)
-      (array_kept (added_there (record { place = l; among = a; says = says }))))
-  header_made dotted h l a says = absurd (false≢true h)
-  header_made (valued v) h l a says = absurd (false≢true h)
+  header_made : {p : Path} (k : MarkKind) → is_header k ≡ true → Saying p k → stands_made (standing_at st p) ≡ true
+  header_made {p = p} passed h x = lasts_made false (standing_at st p) (kept x)
+  header_made {p = p} named h x = lasts_made false (standing_at st p) (kept x)
+  header_made {p = p} added h x = lasts_made true (standing_at st p) (kept x)
+  header_made {p = p} by_latest h x = lasts_made true (standing_at st p) (array_kept (added_there x))
+  header_made k h x = absurd (false≢true h)
 
   on_the_way : {p : Path} (k : MarkKind) → is_header k ≡ true → Saying p k
       → list_any (λ l. begins p (path_of l)) (placed ss) ≡ true
@@ -273,7 +209,7 @@ module _ (ss : List Section) (st : List Mark) (e : enter_all ss [] ≡ Some st) 
   made_forth p h =
       let l = any_of (λ l. begins p (path_of l)) (placed ss) h in
       let x = way_said l.0.element l.0.rows l.0.target p l.2 in
-      header_made x.kind x.header l.0 l.1 x.says
+      header_made x.kind x.header (record { place = l.0; among = l.1; says = x.says })
 
   made_back : (p : Path) (o : Option Standing) → Shown st p o → stands_made o ≡ true
       → list_any (λ l. begins p (path_of l)) (placed ss) ≡ true
@@ -290,17 +226,21 @@ module _ (ss : List Section) (st : List Mark) (e : enter_all ss [] ≡ Some st) 
       same_paths (begins (s ∷ p)) ss
       ∙ same_truth _ _ (made_forth (s ∷ p)) (made_back (s ∷ p) (standing_at st (s ∷ p)) (shown st (s ∷ p)))
 
+  array_stands : (o : Option Standing) → lasts true o ≡ true → stands_array o ≡ true
+  array_stands o h = grind arith
+
+  array_said : {p : Path} (k : MarkKind) → of_array k ≡ true → Saying p k → stands_array (standing_at st p) ≡ true
+  array_said {p = p} added h x = array_stands (standing_at st p) (kept x)
+  array_said {p = p} by_latest h x = array_stands (standing_at st p) (array_kept (added_there x))
+  array_said k h x = absurd (false≢true h)
+
   array_forth : (p : Path) → list_any (λ l. goes_into p (path_of l)) (placed ss) ≡ true
       → stands_array (standing_at st p) ≡ true
   array_forth p h =
       let l = any_of (λ l. goes_into p (path_of l)) (placed ss) h in
-      array_stands (standing_at st p) (go l.0 l.1 (number_said l.0.element l.0.rows l.0.target p l.2))
-    where
-      go : (l : Placed) → Among l (placed ss)
-          → Says l.element l.rows l.target p added ⊎ Says l.element l.rows l.target p by_latest
-          → keeps added (standing_at st p) ≡ true
-      go l a (inl says) = kept l a says
-      go l a (inr says) = array_kept (added_there (record { place = l; among = a; says = says }))
+      let both = and_parts (begins p (path_of l.0)) (is_number (drop (length p) (path_of l.0))) l.2 in
+      let x = way_said l.0.element l.0.rows l.0.target p both.0 in
+      array_said x.kind (x.array both.1) (record { place = l.0; among = l.1; says = x.says })
 
   added_into : {p : Path} → Added (placed ss) p → list_any (λ l. goes_into p (path_of l)) (placed ss) ≡ true
   added_into {p = p} k =

@@ -1,13 +1,13 @@
 -- Data of rows, each of one key, is a table.
-use Rattle.std.proofs.Common.{◌≡◌, ℕ, zero, suc, Bool, true, false, List, [], ◌∷◌, ◌++◌, Option, Some, None, refl, map}
-use Rattle.std.proofs.Common.{take, drop, ap, sym, ◌∙◌, rules, ◌⊎◌, inl, inr, Box, Vec, Global}
-use Rattle.std.proofs.lemmas.Bool.{false≢true, cases_Bool}
+use Rattle.std.proofs.Common.{◌≡◌, ℕ, Bool, true, false, List, [], ◌∷◌, Option, Some, None, refl, map, arith}
+use Rattle.std.proofs.Common.{sym, ◌∙◌, rules, ◌⊎◌, inl, inr, Box, Vec, Global}
+use Rattle.std.proofs.lemmas.Bool.{false≢true}
+use Rattle.std.proofs.Math.Seq.{take-nil, drop-nil}
 use Rattle.basic_toml_value.specs.Data.{Data}
 use Rattle.basic_toml_grammar.specs.Growth.{grown, Branches, no_branches, branch, grow_at, grow_all, closed}
 use Rattle.basic_toml_grammar.specs.Growth.{closed_branches}
 use Rattle.basic_toml_grammar.specs.Mentions.{finished, row_mentions}
-use Rattle.basic_toml_grammar.specs.Sections.{row}
-use Rattle.basic_toml_grammar.specs.Steps.{key, number, Path, step_eq}
+use Rattle.basic_toml_grammar.specs.Steps.{key, number, Path}
 use Rattle.basic_toml_read.specs.declared.section.Raw.TheOpen.{Raw-F}
 use Rattle.basic_toml_read.specs.declared.section.Element.{Element}
 use Rattle.basic_toml_read.specs.declared.section.Row.{Row}
@@ -33,10 +33,7 @@ keys_grow : (bs : Branches) (k : List ℕ) (p : Path) (v : Option Data) → all_
     → all_keys (grow_at bs (key k) p v) ≡ true
 keys_grow no_branches k p v all = refl
 keys_grow (branch (number n) g bs) k p v all = absurd (false≢true all)
-keys_grow (branch (key l) g bs) k p v all = elim (cases_Bool (step_eq (key l) (key k))) [
-  | inl here ↦ rw here all
-  | inr other ↦ rw other (keys_grow bs k p v all)
-]
+keys_grow (branch (key l) g bs) k p v all = grind (arith, keys_grow bs k p v all)
 
 keys_close : (bs : Branches) → all_keys bs ≡ true → is_table (closed_branches bs) ≡ true
 keys_close no_branches all = refl
@@ -47,16 +44,8 @@ rows_grow : (ls : List Lined) (bs : Branches) → all_keys bs ≡ true
     → is_table (closed (grow_all (grown None bs) (row_mentions [] (rows_from [] ls)))) ≡ true
 rows_grow [] bs all = keys_close bs all
 rows_grow (l ∷ ls) bs all =
-    go l.parents (rows_grow ls (grow_at bs (key l.key.text) [] (Some (finished l.value)))
+    rw (take-nil l.parents, drop-nil l.parents) (rows_grow ls (grow_at bs (key l.key.text) [] (Some (finished l.value)))
     (keys_grow bs l.key.text [] (Some (finished l.value)) all))
-  where
-    go : (n : ℕ)
-        → is_table (closed (grow_all (grown None (grow_at bs (key l.key.text) [] (Some (finished l.value))))
-        (row_mentions [] (rows_from [] ls)))) ≡ true
-        → is_table (closed (grow_all (grown None bs)
-        (row_mentions [] (row (take n [] ++ l.key ∷ []) l.start l.value (rows_from (drop n []) ls))))) ≡ true
-    go zero more = more
-    go (suc n) more = more
 
 pub rows_are_table : (rs : List Row) → is_table (rows_data rs) ≡ true
 rows_are_table rs = rows_grow (map lined_of rs) no_branches refl
@@ -65,13 +54,11 @@ rows_are_table rs = rows_grow (map lined_of rs) no_branches refl
 pub item_is_table : (i : Item)
     → ((rs : List Row) × (i ≡ items.Rows rs)) ⊎ ((t : Box Table Global) × (i ≡ items.Inline t))
     → is_table (data_of i) ≡ true
-item_is_table i (inl is) = ap (λ i. is_table (data_of i)) is.1 ∙ ap is_table (rows_item is.0) ∙ rows_are_table is.0
-item_is_table i (inr is) =
-    ap (λ i. is_table (data_of i)) is.1 ∙ ap is_table (inline_data is.0 ∙ (table_is_table is.0.value).1)
+item_is_table i (inl is) = rw (is.1, rows_item is.0) (rows_are_table is.0)
+item_is_table i (inr is) = rw (is.1, inline_data is.0, (table_is_table is.0.value).1) refl
 
 pub raw_is_table : (v : raws.Raw) (rs : Vec Row Global) → v ≡ raws.Inline rs → is_table (plain_data v) ≡ true
-raw_is_table v rs is =
-    ap (λ v. is_table (plain_data v)) is ∙ ap is_table (inline_rows rs) ∙ rows_are_table rs.items
+raw_is_table v rs is = rw (is, inline_rows rs) (rows_are_table rs.items)
 
 -- what is no array has no elements
 no_elements : (d : Data) → is_table d ≡ true → elements_in d ≡ []
@@ -91,10 +78,8 @@ raw_no_elements v plain other = go (raws.out-Raw v) (sym (raws.roll-out-Raw v))
         no_elements (plain_data v) (raw_is_table v z (is ∙ made))
     go (Raw-F.Dotted z) is =
         let not_plain : is_plain (raws.roll-Raw (Raw-F.Dotted z)) 0 ≡ false = search (rules, raws.the_lemmas) in
-        absurd (false≢true (sym not_plain ∙ ap (λ v. is_plain v 0) (sym is) ∙ plain))
-    go x is =
-        let none : elements_in (plain_data (raws.roll-Raw x)) ≡ [] = search (rules, raws.the_lemmas) in
-        ap (λ v. elements_in (plain_data v)) is ∙ none
+        absurd (cc not_plain)
+    go x is = rw is (search (rules, raws.the_lemmas))
 
 pub rows_no_elements : (rs : List Row) → elements_in (rows_data rs) ≡ []
 rows_no_elements rs = no_elements (rows_data rs) (rows_are_table rs)

@@ -1,6 +1,7 @@
 -- The data of items and their parts.
 use Rattle.std.proofs.Common.{◌≡◌, ℕ, List, [], ◌∷◌, ◌++◌, ap, refl, sym, ◌∙◌, map, rules, Vec, Box, Global}
-use Rattle.std.proofs.Common.{Option, Some, None, true, false, cond, length, ◌==◌, Result, Ok, Err, IfErr}
+use Rattle.std.proofs.Common.{Some, None, true, false, cond, length, ◌==◌, Result, Ok, Err, IfErr}
+use Rattle.std.specs.Option.{option_map}
 use Rattle.std.specs.Str.{bytes_eq}
 use Rattle.std.proofs.lemmas.Bool.{false≢true}
 use Rattle.std.proofs.lemmas.List.{map-append}
@@ -9,6 +10,7 @@ use Rattle.basic_toml_value.specs.Text.{text_bytes}
 use Rattle.basic_toml_value.specs.Entries.{seen, texts_of}
 use Rattle.basic_toml_value.specs.Pairs.{keys_of, value_at}
 use Rattle.basic_toml_value.specs.View.{view}
+use Rattle.basic_toml_value.proofs.KeysChanged.{value_at-map}
 use Rattle.basic_toml_value.specs.declared.pairs.Pair.{Pair}
 use Rattle.basic_toml_value.specs.declared.value.Value as values
 use Rattle.basic_toml_grammar.specs.Mentions.{finished}
@@ -18,10 +20,9 @@ use Rattle.basic_toml_plain.specs.Plain.{are_few_simple, plain_array, element_da
 use Rattle.basic_toml_plain.specs.PlainTables.{SectionTables}
 use Rattle.basic_toml_plain.specs.Values.{row_pair, sections_data, value_pair}
 use Rattle.basic_toml_plain.proofs.PlainSeen.{elements_finished}
-use Rattle.basic_toml_plain.proofs.DataParts.{members_same, value_keys}
+use Rattle.basic_toml_plain.proofs.DataParts.{members_same, value_keys, array_seen}
 use Rattle.basic_toml_plain.proofs.RowsData.{few_data}
 use Rattle.basic_toml_grow.specs.declared.item.Item.{the_lemmas, Array, Inline, Plain, Rows, Sections, Tables}
-use Rattle.basic_toml_grow.specs.declared.item.Item as Item
 use Rattle.basic_toml_grow.specs.declared.item.Child.{Child, out-Child}
 use Rattle.basic_toml_grow.specs.declared.item.Table.{Table, out-Table}
 use Rattle.basic_toml_tree.specs.Nodes.{data_among, data_at}
@@ -50,43 +51,35 @@ table_of_pairs t pairs same =
     ∙ ap (λ ps. Data.table (members_of (map (λ p. (p.0, child_data p.1)) ps))) (sym same)
     ∙ ap (λ ps. Data.table (members_of ps)) (pairs_seen pairs)
 
--- where memory is refused to a table, it has an entry
-no_member : (entries : List (List ℕ × Child)) → members_of (map (λ p. (p.0, child_data p.1)) entries) ≡ no_members
-    → (length entries == 0) ≡ true
-no_member [] e = refl
-no_member (p ∷ ps) e = cc
+-- where memory is refused to a table that has entries or rows, it holds something
+none_mapped : {A : Type 0} (f : A → List ℕ × Data) (xs : List A) → members_of (map f xs) ≡ no_members
+    → (length xs == 0) ≡ true
+none_mapped f [] e = refl
+none_mapped f (x ∷ xs) e = cc
 
-entry_held : (t : Table) → (length (out-Table t).entries == 0) ≡ false → HoldsAny (table_data t)
-entry_held t some none =
-    false≢true (sym some ∙ no_member (out-Table t).entries
-    (members_same _ no_members (sym (table_members t) ∙ none)))
+refused : {A B E : Type 0} (f : A → List ℕ × Data) (xs : List A) (d : Data) (result : Result B E)
+    → d ≡ Data.table (members_of (map f xs)) → (length xs == 0) ≡ false → IfErr result (λ e. HoldsAny d)
+refused f xs d (Ok x) is some = tt
+refused f xs d (Err e) is some =
+    λ none. false≢true (sym some ∙ none_mapped f xs (members_same _ no_members (sym is ∙ none)))
 
 pub refused_held : {A E : Type 0} (t : Table) (result : Result A E) → (length (out-Table t).entries == 0) ≡ false
     → IfErr result (λ e. HoldsAny (table_data t))
-refused_held t (Ok x) some = tt
-refused_held t (Err e) some = entry_held t some
-
--- and so it has a row, where it has rows
-no_row : (rows : List Row) → members_of (map row_pair rows) ≡ no_members → (length rows == 0) ≡ true
-no_row [] e = refl
-no_row (r ∷ rs) e = cc
-
-rows_held : (rows : List Row) → are_few_simple 0 rows ≡ true → (length rows == 0) ≡ false → HoldsAny (rows_data rows)
-rows_held rows simple some none =
-    false≢true (sym some ∙ no_row rows
-    (members_same (members_of (map row_pair rows)) no_members (sym (few_data rows simple) ∙ none)))
+refused_held t result some =
+    refused (λ p. (p.0, child_data p.1)) (out-Table t).entries (table_data t) result (table_members t) some
 
 pub refused_rows : {A E : Type 0} (rows : List Row) (d : Data) (result : Result A E) → d ≡ rows_data rows
     → are_few_simple 0 rows ≡ true → (length rows == 0) ≡ false → IfErr result (λ e. HoldsAny d)
-refused_rows rows d (Ok x) is simple some = tt
-refused_rows rows d (Err e) is simple some = λ none. rows_held rows simple some (sym is ∙ none)
+refused_rows rows d result is simple some = refused row_pair rows d result (is ∙ few_data rows simple) some
 
 -- the data of an array of plain values
 pub plain_item : (es : List Element) → data_of (Plain es) ≡ finished (plain_array es)
 plain_item es = search (rules, the_lemmas)
 
-pub plain_elements : (es : List Element) → data_of (Plain es) ≡ Data.array (items_of (map element_data es))
-plain_elements es = plain_item es ∙ ap Data.array (elements_finished es)
+-- and what it is seen as
+pub plain_seen : (elements : Vec values.Value Global) (es : List Element)
+    → map view elements.items ≡ map element_data es → view (values.Array elements) ≡ data_of (Plain es)
+plain_seen elements es same = array_seen elements ∙ rw (same, plain_item es, elements_finished es) refl
 
 -- the data of an inline table of plain values
 pub rows_item : (rs : List Row) → data_of (Rows rs) ≡ rows_data rs
@@ -97,12 +90,9 @@ pub children_data : (children : Vec Child Global)
     → data_of (Array children) ≡ Data.array (items_of (map child_data children.items))
 children_data children = search (rules, the_lemmas)
 
--- the data of an item that is a table
+-- the data of an inline table of other items
 pub inline_data : (table : Box Table Global) → data_of (Inline table) ≡ table_data table.value
 inline_data table = search (rules, the_lemmas)
-
-pub table_item_data : (table : Box Table Global) → data_of (Item.Table table) ≡ table_data table.value
-table_item_data table = search (rules, the_lemmas)
 
 -- the data of an array of tables
 pub tables_data : (tables : Box (Vec Table Global × Table) Global)
@@ -123,34 +113,30 @@ keys_copied copies pairs old same is =
     child_keys [] = refl
     child_keys (p ∷ ps) = ap (λ l. text_bytes p.key ∷ l) (child_keys ps)
 
--- values of the tables before and of the latest are those of an array of tables
-pub tables_whole : (elements next : List values.Value) (before : List Table) (v : values.Value) (latest : Table)
-    → next ≡ elements ++ v ∷ [] → map view elements ≡ map table_data before → view v ≡ table_data latest
-    → map view next ≡ map table_data before ++ table_data latest ∷ []
-tables_whole elements next before v latest next_is same equal =
-    rw (next_is, map-append view elements (v ∷ []), same, equal) refl
+-- what an array is seen as that has the tables before and the latest
+pub tables_seen : (before next : Vec values.Value Global) (v : values.Value)
+    (tables : Box (Vec Table Global × Table) Global) → next.items ≡ before.items ++ v ∷ []
+    → map view before.items ≡ map table_data tables.value.0.items → view v ≡ table_data tables.value.1
+    → view (values.Array next) ≡ data_of (Tables tables)
+tables_seen before next v tables next_is same equal =
+    array_seen next ∙ rw (next_is, map-append view before.items (v ∷ []), same, equal) (sym (tables_data tables))
 
 -- the data at a key of a table is that of its child there
-unfoldable among : Option Child → Option Data
-among None = None
-among (Some c) = Some (child_data c)
+data_among-members : (ps : List (List ℕ × Data)) (key : List ℕ) → data_among (members_of ps) key ≡ value_at ps key
+data_among-members [] key = refl
+data_among-members (p ∷ ps) key = ap (cond (bytes_eq key p.0) (Some p.1)) (data_among-members ps key)
 
-data_among-mapped : (ps : List (List ℕ × Child)) (key : List ℕ)
-    → data_among (members_of (map (λ p. (p.0, child_data p.1)) ps)) key ≡ among (value_at ps key)
-unfolding among
-data_among-mapped [] key = refl
-data_among-mapped (p ∷ ps) key =
-    elim (bytes_eq key p.0) as (λ b. cond b (Some (child_data p.1)) (data_among (members_of (map (λ p. (p.0, child_data p.1)) ps)) key)
-    ≡ among (cond b (Some p.1) (value_at ps key))) [ true ↦ refl | false ↦ data_among-mapped ps key ]
+data_at_key : (t : Table) (key : List ℕ)
+    → data_at (table_data t) key ≡ option_map child_data (value_at (out-Table t).entries key)
+data_at_key t key =
+    ap (λ d. data_at d key) (table_members t)
+    ∙ data_among-members (map (λ p. (p.0, child_data p.1)) (out-Table t).entries) key
+    ∙ value_at-map child_data (out-Table t).entries key
 
 pub data_at_found : (t : Table) (key : List ℕ) (c : Child) → value_at (out-Table t).entries key ≡ Some c
     → data_at (table_data t) key ≡ Some (child_data c)
-unfolding among
-data_at_found t key c found =
-    ap (λ d. data_at d key) (table_members t) ∙ data_among-mapped (out-Table t).entries key ∙ ap among found
+data_at_found t key c found = data_at_key t key ∙ ap (option_map child_data) found
 
 pub data_at_absent : (t : Table) (key : List ℕ) → value_at (out-Table t).entries key ≡ None
     → data_at (table_data t) key ≡ None
-unfolding among
-data_at_absent t key absent =
-    ap (λ d. data_at d key) (table_members t) ∙ data_among-mapped (out-Table t).entries key ∙ ap among absent
+data_at_absent t key absent = data_at_key t key ∙ ap (option_map child_data) absent

@@ -1,11 +1,8 @@
 -- What is answered to a list holds of it in each other order.
-use Rattle.std.proofs.Common.{◌≡◌, inl, inr, ℕ, ◌<◌, ◌≤◌, Bool, true, false, List, map, refl, sym, ◌∙◌, subst}
-use Rattle.std.proofs.Common.{arith, Some, None, Option, Result, Ok, Err}
-use Rattle.std.specs.Prelude.{nat_le, not, ◌||◌, if◌then◌else◌}
-use Rattle.std.proofs.lemmas.Bool.{le-leb}
-use Rattle.basic_toml_value.specs.Data.{Data}
+use Rattle.std.proofs.Common.{◌≡◌, inl, inr, ◌<◌, ◌≤◌, true, false, List, map, refl, sym, ◌∙◌}
+use Rattle.std.proofs.Common.{arith, None, Result, Ok, Err}
+use Rattle.std.proofs.lemmas.Bool.{cases_Bool, le-leb}
 use Rattle.basic_toml_value.specs.Nesting.{nesting_limit}
-use Rattle.basic_toml_value.specs.SameMaps.{SameMaps}
 use Rattle.basic_toml_grammar.specs.Sections.{Section}
 use Rattle.basic_toml_grammar.specs.Depth.{depth}
 use Rattle.basic_toml_grammar.specs.Document.{has_clash, tree_of_sections, document_of}
@@ -25,20 +22,10 @@ use Rattle.basic_toml_tree.specs.Resolve.{Resolves, IsResolved, IsUnresolved, me
 use Rattle.basic_toml_tree.proofs.SectionsStopped.{fault_is_named}
 use Rattle.basic_toml_read.proofs.RowsHaveKeys.{sections_have_keys}
 
--- where sections clash, and where their tree is too deep, they have no document
-clash_has_none : (sections : List Section) → has_clash sections ≡ true → document_of sections ≡ None
-clash_has_none sections met = rw met refl
-
+-- where the tree of sections is too deep, they have no document
 deep_has_none : (sections : List Section) → nesting_limit < depth (tree_of_sections sections)
     → document_of sections ≡ None
-deep_has_none sections over = go (has_clash sections) (nat_le (depth (tree_of_sections sections)) nesting_limit) refl
-  where
-    go : (b c : Bool) → nat_le (depth (tree_of_sections sections)) nesting_limit ≡ c
-        → ◌≡◌ {A = Option Data} (if b || not c then None else Some (tree_of_sections sections)) None
-    go true c is = refl
-    go false false is = refl
-    go false true is =
-        let fits : depth (tree_of_sections sections) ≤ nesting_limit = grind (arith, is) in absurd (omega arith)
+deep_has_none sections over = grind arith
 
 -- sections, with keys and without, that mean the same as others
 module _ (sections others : List Section) (same : MeanTheSame sections others) where
@@ -46,34 +33,33 @@ module _ (sections others : List Section) (same : MeanTheSame sections others) w
   tree_too tree is =
       let maps = same.maps is.clash in
       let peace : has_clash others ≡ false = sym same.clash ∙ is.clash in
-      let fits : depth (tree_of_sections others) ≤ nesting_limit =
-      subst (λ (n : ℕ). n ≤ nesting_limit) (same_maps_are_as_deep _ _ maps) is.fits in
-      rw (peace, le-leb (depth (tree_of_sections others)) nesting_limit fits)
-      (subst (λ (d : Data). SameMaps d (tree_of_sections others)) (sym is.grown) maps)
+      let fits : depth (tree_of_sections others) ≤ nesting_limit = rw (same_maps_are_as_deep _ _ maps) at is.fits in
+      rw (peace, le-leb (depth (tree_of_sections others)) nesting_limit fits, is.grown) maps
 
   clash_too : (fault : Fault) → has_clash sections ≡ true → IsRefusedToo sections fault others
   clash_too fault met =
       let there : has_clash others ≡ true = sym same.clash ∙ met in
-      record { none = clash_has_none others there; clash = λ names. there }
+      record { none = rw there refl; clash = λ names. there }
 
-  too_deep_too : (fault : Fault) → (b : Bool) → has_clash sections ≡ b
-      → (b ≡ false → nesting_limit < depth (tree_of_sections sections)) → IsRefusedToo sections fault others
-  too_deep_too fault true met over = clash_too fault met
-  too_deep_too fault false peace over =
-      let there : nesting_limit < depth (tree_of_sections others) =
-      subst (λ (n : ℕ). nesting_limit < n) (same_maps_are_as_deep _ _ (same.maps peace)) (over refl) in
-      record {
-        none = deep_has_none others there;
-        clash = λ names. sym same.clash ∙ named_clashes sections fault names;
-      }
+  too_deep_too : (fault : Fault) → (has_clash sections ≡ false → nesting_limit < depth (tree_of_sections sections))
+      → IsRefusedToo sections fault others
+  too_deep_too fault over = elim (cases_Bool (has_clash sections)) [
+    | inl met ↦ clash_too fault met
+    | inr peace ↦
+        let there : nesting_limit < depth (tree_of_sections others) =
+        rw (same_maps_are_as_deep _ _ (same.maps peace)) at (over peace) in
+        record {
+          none = deep_has_none others there;
+          clash = λ names. sym same.clash ∙ named_clashes sections fault names;
+        }
+  ]
 
   none_too : all_keyed sections ≡ true → all_keyed_within sections ≡ true → (fault : Fault)
       → IsUnresolved sections fault → IsAnswerToo sections (Err fault) others
   none_too keyed within _ (memory listed) = inl refl
   none_too keyed within fault (refused why) = inr (elim (fault_is_named sections fault keyed why) [
     | inl names ↦ clash_too fault (named_clashes sections fault names)
-    | inr d ↦ too_deep_too fault (has_clash sections) refl
-        (λ peace. deep_where_one_is nesting_limit d.0 sections keyed within peace d.2)
+    | inr d ↦ too_deep_too fault (λ peace. deep_where_one_is nesting_limit d.0 sections keyed within peace d.2)
   ])
 
 mean_the_same : (sections others : List Section) → all_keyed sections ≡ true → IsReordering sections others

@@ -1,5 +1,4 @@
 -- Where what stands in the tree comes from: what a section list brings, by paths.
 pub mod WaysAreLocated
 pub mod SectionsPlaceOrigins
-pub mod HeadersComeFrom
 pub mod RowsAreNodes

@@ -1,25 +1,21 @@
 -- The data of the rows of a section, and of the table that they stand for.
-use Rattle.std.proofs.Common.{◌≡◌, ℕ, true, List, ap, sym, ◌∙◌, rules, Result, Ok, Err}
-use Rattle.std.specs.Prelude.{IfOk}
-use Rattle.basic_toml_value.specs.View.{view}
-use Rattle.basic_toml_value.specs.declared.value.Value.{Value}
+use Rattle.std.proofs.Common.{◌≡◌, ℕ, true, List, ap, sym, ◌∙◌, rules}
 use Rattle.basic_toml_read.specs.declared.section.Row.{Row}
 use Rattle.basic_toml_plain.specs.Tries.{tree_data}
 use Rattle.basic_toml_plain.specs.Plain.{are_few_simple, rows_data}
 use Rattle.basic_toml_plain.specs.Values.{section_data}
 use Rattle.basic_toml_plain.proofs.RowsData.{few_data}
 use Rattle.basic_toml_grow.specs.Simple.{section_table}
-use Rattle.basic_toml_grow.specs.declared.item.Item.{Item, Section, the_lemmas}
+use Rattle.basic_toml_grow.specs.declared.item.Item.{Section, the_lemmas}
 use Rattle.basic_toml_grow.proofs.SectionTables.{section_trie}
 use Rattle.basic_toml_tree.specs.Data.{data_of, table_data}
 use Rattle.basic_toml_tree.proofs.TrieData.{item_trie_data, table_trie_data}
 
 -- of the item
-pub section_item : (rows : List Row) → data_of (Section rows) ≡ section_data rows
-section_item rows = search (rules, the_lemmas)
-
 pub section_rows : (rows : List Row) → are_few_simple 0 rows ≡ true → data_of (Section rows) ≡ rows_data rows
-section_rows rows simple = section_item rows ∙ sym (few_data rows simple)
+section_rows rows simple =
+    let item : data_of (Section rows) ≡ section_data rows = search (rules, the_lemmas) in
+    item ∙ sym (few_data rows simple)
 
 -- of the table
 pub section_table_data : (s : ℕ) (rows : List Row) → are_few_simple 0 rows ≡ true
@@ -28,11 +24,3 @@ section_table_data s rows simple =
     sym (table_trie_data (section_table s rows))
     ∙ ap tree_data (sym (section_trie s rows simple))
     ∙ item_trie_data (Section rows) ∙ section_rows rows simple
-
--- a value that the rows of an item become
-pub section_moved : {E : Type 0} (result : Result Value E) (i : Item) (rows moved : List Row) → i ≡ Section rows
-    → moved ≡ rows → are_few_simple 0 moved ≡ true → IfOk result (λ value. view value ≡ rows_data moved)
-    → IfOk result (λ value. view value ≡ data_of i)
-section_moved (Ok value) i rows moved is same simple ok =
-    ok ∙ sym (section_rows moved simple) ∙ ap (λ rows. data_of (Section rows)) same ∙ sym (ap data_of is)
-section_moved (Err e) i rows moved is same simple ok = tt

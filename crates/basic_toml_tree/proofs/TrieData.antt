@@ -1,16 +1,15 @@
 -- The data of an item's trie is that of the item.
-use Rattle.std.proofs.Common.{◌≡◌, ℕ, suc, true, false, List, [], ◌∷◌, ◌++◌, map, Some, None, Option, refl, ap, sym}
+use Rattle.std.proofs.Common.{◌≡◌, ℕ, suc, true, false, List, [], ◌∷◌, ◌++◌, map, Some, None, Option, refl, ap}
 use Rattle.std.proofs.Common.{◌∙◌, subst, rules, length}
-use Rattle.std.specs.Prelude.{⊤}
 use Rattle.std.proofs.lemmas.List.{map-append}
 use Rattle.basic_toml_value.specs.Data.{Data, item, items_of, members_of}
 use Rattle.basic_toml_grammar.specs.Standing.{Standing, table, array}
 use Rattle.basic_toml_grammar.specs.Growth as growth
 use Rattle.basic_toml_grammar.specs.Trie.{Trie, trie, bare_tries}
 use Rattle.basic_toml_read.specs.declared.section.Row.{Row}
-use Rattle.basic_toml_plain.specs.Tries.{tree_data, leaf, by_keys, row_trie, rows_trie}
+use Rattle.basic_toml_plain.specs.Tries.{tree_data, row_trie, rows_trie}
 use Rattle.basic_toml_plain.specs.PlainTables.{SectionTable}
-use Rattle.basic_toml_plain.specs.Values.{section_data, sections_data}
+use Rattle.basic_toml_plain.specs.Values.{section_data}
 use Rattle.basic_toml_plain.proofs.RowsData.{keys_data, rows_agree}
 use Rattle.basic_toml_grow.specs.declared.item.Item.{Item, the_lemmas}
 use Rattle.basic_toml_grow.specs.declared.item.Item.TheOpen.{Item-F, Child-F, Table-F}
@@ -49,15 +48,10 @@ OfChild c = tree_data (child_trie c) ≡ child_data c
 abbrev OfTable : Table → Type 0
 OfTable t = tree_data (table_trie t) ≡ table_data t
 
-children_agree : (cs : List ((c : Child) × OfChild c))
-    → map tree_data (map child_trie (map (λ e. e.0) cs)) ≡ map child_data (map (λ e. e.0) cs)
-children_agree [] = refl
-children_agree (e ∷ es) = rw (e.1, children_agree es) refl
-
-tables_agree : (ts : List ((t : Table) × OfTable t))
-    → map tree_data (map table_trie (map (λ e. e.0) ts)) ≡ map table_data (map (λ e. e.0) ts)
-tables_agree [] = refl
-tables_agree (e ∷ es) = rw (e.1, tables_agree es) refl
+all_agree : {A : Type 0} (f : A → Trie) (g : A → Data) (xs : List ((x : A) × (tree_data (f x) ≡ g x)))
+    → map tree_data (map f (map (λ e. e.0) xs)) ≡ map g (map (λ e. e.0) xs)
+all_agree f g [] = refl
+all_agree f g (e ∷ es) = rw (e.1, all_agree f g es) refl
 
 abbrev tries_of_entries : List (List ℕ × Child) → List (List ℕ × Data)
 tries_of_entries ps =
@@ -73,75 +67,13 @@ entries_agree (p ∷ ps) = rw (p.1.1, entries_agree ps) refl
 
 section_agrees : (rows : List Row) → tree_data (rows_trie rows) ≡ section_data rows
 section_agrees rows =
-    keys_data (Some (table false true false)) (map row_trie rows) ∙ ap (λ ps. Data.table (members_of ps)) (rows_agree rows)
+    keys_data (Some (table false true false)) (map row_trie rows)
+    ∙ ap (λ ps. Data.table (members_of ps)) (rows_agree rows)
 
 sections_agree : (ts : List SectionTable)
     → map tree_data (map (λ t. rows_trie t.1) ts) ≡ map (λ t. section_data t.1) ts
 sections_agree [] = refl
 sections_agree (t ∷ ts) = rw (section_agrees t.1, sections_agree ts) refl
-
--- that the parts of an item agree
-abbrev Agree : Item-F Item Child Table → Type 0
-Agree (Item-F.Array children) =
-    map tree_data (map child_trie children.items) ≡ map child_data children.items
-Agree (Item-F.Inline t) = OfTable t.value
-Agree (Item-F.Table t) = OfTable t.value
-Agree (Item-F.Tables tables) =
-    (map tree_data (map table_trie tables.value.0.items) ≡ map table_data tables.value.0.items) × OfTable tables.value.1
-Agree _ = ⊤
-
-agrees_by : (x : Item-F Item Child Table) (t : Trie) (d : Data) → item_trie (roll-Item x) ≡ t
-    → data_of (roll-Item x) ≡ d → tree_data t ≡ d → OfItem (roll-Item x)
-agrees_by x t d trie_is data_is same = ap tree_data trie_is ∙ same ∙ sym data_is
-
-item_agrees : (x : Item-F Item Child Table) → Agree x → OfItem (roll-Item x)
-item_agrees (Item-F.Array children) agree =
-    agrees_by (Item-F.Array children) (leaf (Data.array (items_of (map tree_data (map child_trie children.items)))))
-    (Data.array (items_of (map child_data children.items))) (search (rules, the_lemmas)) (search (rules, the_lemmas))
-    (ap (λ ds. Data.array (items_of ds)) agree)
-item_agrees (Item-F.Section rs) agree =
-    agrees_by (Item-F.Section rs) (rows_trie rs) (section_data rs) (search (rules, the_lemmas))
-    (search (rules, the_lemmas)) (section_agrees rs)
-item_agrees (Item-F.Inline t) agree =
-    agrees_by (Item-F.Inline t) (leaf (tree_data (table_trie t.value))) (table_data t.value)
-    (search (rules, the_lemmas)) (search (rules, the_lemmas)) agree
-item_agrees (Item-F.Table t) agree =
-    agrees_by (Item-F.Table t) (table_trie t.value) (table_data t.value) (search (rules, the_lemmas))
-    (search (rules, the_lemmas)) agree
-item_agrees (Item-F.Tables tables) agree =
-    let ts : List Trie = map table_trie tables.value.0.items in
-    let ds : List Data = map table_data tables.value.0.items in
-    let s : Option Standing = Some (array (suc (length (map table_trie tables.value.0.items)))) in
-    agrees_by (Item-F.Tables tables) (trie s None (by_numbers 0 (ts ++ table_trie tables.value.1 ∷ [])))
-    (Data.array (items_of (ds ++ table_data tables.value.1 ∷ []))) (search (rules, the_lemmas))
-    (search (rules, the_lemmas))
-    (numbers_agree s ts (table_trie tables.value.1) ds (table_data tables.value.1) agree.0 agree.1)
-item_agrees (Item-F.Sections tables) agree =
-    let ts = map (λ t. rows_trie t.1) tables.value.0 in
-    let s : Option Standing = Some (array (suc (length tables.value.0))) in
-    agrees_by (Item-F.Sections tables) (trie s None (by_numbers 0 (ts ++ rows_trie tables.value.1.1 ∷ [])))
-    (sections_data tables.value) (search (rules, the_lemmas)) (search (rules, the_lemmas))
-    (numbers_agree s ts (rows_trie tables.value.1.1) (map (λ t. section_data t.1) tables.value.0)
-    (section_data tables.value.1.1) (sections_agree tables.value.0) (section_agrees tables.value.1.1))
-item_agrees x agree = search (rules, the_lemmas)
-
-child_agrees : (x : Child-F Item Child Table) → OfItem x.item → OfChild (roll-Child x)
-child_agrees x agree =
-    let a : child_trie (roll-Child x) ≡ item_trie x.item = search (rules, the_lemmas) in
-    let b : child_data (roll-Child x) ≡ data_of x.item = search (rules, the_lemmas) in
-    ap tree_data a ∙ agree ∙ sym b
-
-table_agrees : (x : Table-F Item Child Table) → tries_of_entries x.entries ≡ data_of_entries x.entries
-    → OfTable (roll-Table x)
-table_agrees x agree =
-    let s : Option Standing = Some (table x.passed x.named x.dotted) in
-    let ps : List (List ℕ × Trie) = map (λ (p : List ℕ × Child). (p.0, child_trie p.1)) x.entries in
-    let a : table_trie (roll-Table x)
-    ≡ trie (Some (table x.passed x.named x.dotted)) None
-    (by_keys (map (λ (p : List ℕ × Child). (p.0, child_trie p.1)) x.entries)) = search (rules, the_lemmas) in
-    let b : table_data (roll-Table x) ≡ Data.table (members_of (data_of_entries x.entries)) =
-    search (rules, the_lemmas) in
-    ap tree_data a ∙ keys_data s ps ∙ ap (λ ds. Data.table (members_of ds)) agree ∙ sym b
 
 -- an item whose parts come with what is to be shown of them
 abbrev Item1 : Type 0
@@ -153,26 +85,38 @@ Child1 = (c : Child) × OfChild c
 abbrev Table1 : Type 0
 Table1 = (t : Table) × OfTable t
 
-parts_agree : (y : Item-F Item1 Child1 Table1)
-    → Agree (map-Item Item1 Child1 Table1 Item Child Table (λ e. e.0) (λ e. e.0) (λ e. e.0) y)
-parts_agree (Item-F.Array es) = children_agree es.items
-parts_agree (Item-F.Inline e) = e.value.1
-parts_agree (Item-F.Table e) = e.value.1
-parts_agree (Item-F.Tables e) = (tables_agree e.value.0.items, e.value.1.1)
-parts_agree y = tt
+item_agrees : (y : Item-F Item1 Child1 Table1)
+    → OfItem (roll-Item (map-Item Item1 Child1 Table1 Item Child Table (λ e. e.0) (λ e. e.0) (λ e. e.0) y))
+item_agrees (Item-F.Array es) = search (rules, the_lemmas, all_agree child_trie child_data es.items)
+item_agrees (Item-F.Section rs) = simp the_lemmas (section_agrees rs)
+item_agrees (Item-F.Inline e) = search (rules, the_lemmas, e.value.1)
+item_agrees (Item-F.Table e) = search (rules, the_lemmas, e.value.1)
+item_agrees (Item-F.Tables e) =
+    let ts : List Table = map (λ e. e.0) e.value.0.items in
+    let t : Table = e.value.1.0 in
+    search (rules, the_lemmas, numbers_agree (Some (array (suc (length (map table_trie ts))))) (map table_trie ts)
+    (table_trie t) (map table_data ts) (table_data t) (all_agree table_trie table_data e.value.0.items) e.value.1.1)
+item_agrees (Item-F.Sections tables) =
+    simp the_lemmas (numbers_agree (Some (array (suc (length tables.value.0))))
+    (map (λ t. rows_trie t.1) tables.value.0) (rows_trie tables.value.1.1) _ _ (sections_agree tables.value.0)
+    (section_agrees tables.value.1.1))
+item_agrees y = search (rules, the_lemmas)
 
 item_case : (x : Item-F Item Child Table) (y : Item-F Item1 Child1 Table1)
     → map-Item Item1 Child1 Table1 Item Child Table (λ e. e.0) (λ e. e.0) (λ e. e.0) y ≡ x → OfItem (roll-Item x)
-item_case x y is = item_agrees x (subst Agree is (parts_agree y))
+item_case x y is = subst (λ x. OfItem (roll-Item x)) is (item_agrees y)
 
 child_case : (x : Child-F Item Child Table) (y : Child-F Item1 Child1 Table1)
     → map-Child Item1 Child1 Table1 Item Child Table (λ e. e.0) (λ e. e.0) (λ e. e.0) y ≡ x → OfChild (roll-Child x)
-child_case x y is = child_agrees x (subst (λ z. OfItem z.item) is y.item.1)
+child_case x y is =
+    let agree : OfItem x.item = subst (λ z. OfItem z.item) is y.item.1 in search (rules, the_lemmas, agree)
 
 table_case : (x : Table-F Item Child Table) (y : Table-F Item1 Child1 Table1)
     → map-Table Item1 Child1 Table1 Item Child Table (λ e. e.0) (λ e. e.0) (λ e. e.0) y ≡ x → OfTable (roll-Table x)
 table_case x y is =
-    table_agrees x (subst (λ z. tries_of_entries z.entries ≡ data_of_entries z.entries) is (entries_agree y.entries))
+    let agree : tries_of_entries x.entries ≡ data_of_entries x.entries =
+    subst (λ z. tries_of_entries z.entries ≡ data_of_entries z.entries) is (entries_agree y.entries) in
+    simp the_lemmas (keys_data (Some (table x.passed x.named x.dotted)) _ ∙ ap (λ ds. Data.table (members_of ds)) agree)
 
 pub item_trie_data : (i : Item) → tree_data (item_trie i) ≡ data_of i
 item_trie_data = ind-Item OfItem OfChild OfTable item_case child_case table_case

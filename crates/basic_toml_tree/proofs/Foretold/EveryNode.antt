@@ -1,10 +1,10 @@
 -- Wherever the document of a section list has data, a node is foretold: what headers made by its path, and what rows
 -- brought since it comes from somewhere.
-use Rattle.std.proofs.Common.{◌≡◌, Bool, true, false, not, List, [], ◌∷◌, Option, Some, None, refl, ap, ◌∙◌, subst}
-use Rattle.std.specs.Prelude.{◌||◌, if◌then◌else◌, is_some, nat_le}
-use Rattle.std.proofs.lemmas.Bool.{false≢true, or_parts}
+use Rattle.std.proofs.Common.{◌≡◌, true, false, not, List, [], ◌∷◌, Option, Some, None, inl, inr, refl, ap, arith}
+use Rattle.std.proofs.Common.{◌∙◌, subst}
+use Rattle.std.specs.Prelude.{is_some}
+use Rattle.std.proofs.lemmas.Bool.{false≢true, or_parts, cases_Bool}
 use Rattle.basic_toml_value.specs.Data.{Data}
-use Rattle.basic_toml_value.specs.Nesting.{nesting_limit}
 use Rattle.basic_toml_grammar.specs.Sections.{Section}
 use Rattle.basic_toml_grammar.specs.Steps.{Path}
 use Rattle.basic_toml_grammar.specs.IndexedPath.{Located, located}
@@ -12,11 +12,10 @@ use Rattle.basic_toml_grammar.specs.RowClash.{rows_clash, has_row_clash}
 use Rattle.basic_toml_grammar.specs.SectionClash.{sections_clash}
 use Rattle.basic_toml_grammar.specs.Growth.{nothing_grown, grow_all}
 use Rattle.basic_toml_grammar.specs.Mentions.{mentions}
-use Rattle.basic_toml_grammar.specs.Depth.{depth}
 use Rattle.basic_toml_grammar.specs.Document.{has_clash, tree_of_sections, document_of}
 use Rattle.basic_toml_grammar.specs.Entering.{all_keyed, all_keyed_within}
 use Rattle.basic_toml_grammar.specs.Trie.{Trie, nothing, put_sections}
-use Rattle.basic_toml_grammar.specs.Nodes.{Node, is_made, made_node, last_at, node_of_sections, node_at}
+use Rattle.basic_toml_grammar.specs.Nodes.{Node, is_made, last_at, node_of_sections, node_at}
 use Rattle.basic_toml_grammar.proofs.Tries.SectionsInATrie.{sections_put, sections_grown}
 use Rattle.basic_toml_grammar.proofs.Tries.NumbersInTurn.{numbers_in_turn}
 use Rattle.basic_toml_grammar.proofs.Nesting.LevelsAreWithinDepth.{list_keys}
@@ -42,42 +41,29 @@ in_turn sections keyed free = go (put_sections sections nothing) refl (sections_
         subst InTurn (sections_grown sections t is) (bare_in_turn t (numbers_in_turn sections t is))
 
 told : (m : Option Node) (o : Option Origin) → Same m o → is_some o ≡ true → is_some m ≡ true
-told (Some m) o same e = refl
-told None None same e = e
-told None (Some o) same e = absurd (cc)
+told m o same e = grind arith
 
 pub foretold_there : (sections : List Section) (p : Path) → all_keyed sections ≡ true
     → all_keyed_within sections ≡ true → has_clash sections ≡ false
     → is_some (data_along p (tree_of_sections sections)) ≡ true → is_some (node_at sections p) ≡ true
 foretold_there sections [] keyed within free e = refl
-foretold_there sections (s ∷ p) keyed within free e = go (is_made ls (s ∷ p)) refl
+foretold_there sections (s ∷ p) keyed within free e = elim (cases_Bool (is_made ls (s ∷ p))) [
+  | inl made ↦ rw made refl
+  | inr not ↦ rw not (told (node_of_sections ls (last_at sections) ls (s ∷ p)) (sections_origins 0 ls (s ∷ p))
+      (sections_same ls (last_at sections) 0 ls (s ∷ p) not
+      (located_any (λ s. rows_clash s.rows) [] sections
+      ∙ (or_parts (has_row_clash sections) (sections_clash sections) free).0)
+      (located_keyed [] sections ∙ within))
+      (sections_found 0 ls (s ∷ p) not (tree_leads (mentions ls) s p (in_turn sections keyed free) e)))
+]
   where
     ls : List Located
     ls = located sections
 
-    go : (b : Bool) → is_made ls (s ∷ p) ≡ b
-        → is_some (if b then Some (made_node ls (last_at sections) (s ∷ p))
-        else node_of_sections ls (last_at sections) ls (s ∷ p)) ≡ true
-    go true is = refl
-    go false is =
-        told (node_of_sections ls (last_at sections) ls (s ∷ p)) (sections_origins 0 ls (s ∷ p))
-        (sections_same ls (last_at sections) 0 ls (s ∷ p) is
-        (located_any (λ s. rows_clash s.rows) [] sections
-        ∙ (or_parts (has_row_clash sections) (sections_clash sections) free).0)
-        (located_keyed [] sections ∙ within))
-        (sections_found 0 ls (s ∷ p) is (tree_leads (mentions ls) s p (in_turn sections keyed free) e))
-
 -- what a document says of its list
 document_is : (sections : List Section) (tree : Data) → document_of sections ≡ Some tree
     → (has_clash sections ≡ false) × (tree_of_sections sections ≡ tree)
-document_is sections tree e =
-    go (has_clash sections) (not (nat_le (depth (tree_of_sections sections)) nesting_limit)) refl e
-  where
-    go : (a b : Bool) → has_clash sections ≡ a → (if a || b then None else Some (tree_of_sections sections)) ≡ Some tree
-        → (has_clash sections ≡ false) × (tree_of_sections sections ≡ tree)
-    go true b is e = cc
-    go false true is e = cc
-    go false false is e = (is, cc)
+document_is sections tree e = (grind arith, grind arith)
 
 pub every_node_of_a_list : EveryNodeOfAListIsForetold
 every_node_of_a_list sections tree p keyed within means there =

@@ -1,7 +1,7 @@
 -- A node that stands in a tree is foretold by the section list, and as it is: its data stand at its path.
-use Rattle.std.proofs.Common.{◌≡◌, ℕ, Bool, true, List, Option, Some, None, ap, sym, ◌∙◌, false, refl}
+use Rattle.std.proofs.Common.{◌≡◌, ℕ, Bool, true, List, Option, Some, None, inl, inr, ap, sym, ◌∙◌, arith, false}
 use Rattle.std.specs.Prelude.{is_some, IfSome, IsSomeAnd, if◌then◌else◌}
-use Rattle.std.proofs.lemmas.Bool.{false≢true}
+use Rattle.std.proofs.lemmas.Bool.{false≢true, cases_Bool}
 use Rattle.std.proofs.lemmas.Option.{IfSome_then}
 use Rattle.basic_toml_grammar.specs.Sections.{Section, KeyTexts}
 use Rattle.basic_toml_grammar.specs.Steps.{Path}
@@ -19,83 +19,78 @@ use Rattle.basic_toml_tree.proofs.Nodes.OuterTold.{row_outer}
 use Rattle.basic_toml_tree.proofs.Nodes.PlacesTold.{plain_at, row_place}
 use Rattle.basic_toml_tree.proofs.Nodes.RowNodesTold.{RowTold, row_told, some_both}
 
-there : (sections : List Section) (p : Path) (node : Node) → IsNodeAt sections p node
-    → is_some (grammar.node_at sections p) ≡ true
-there sections p node is =
-    foretold_there sections p is.keyed is.resolved.within is.resolved.clash
-    (ap (λ d. is_some (data_along p d)) (sym is.resolved.grown) ∙ ap is_some is.stands.holds)
-
 -- what is said of a node holds where it holds of what headers made, and of what they did not
-foretold : (sections : List Section) (p : Path) (node : Node) (says : grammar.Node → Type 0)
-    → (is : IsNodeAt sections p node) → (grammar.is_made (located sections) p ≡ true → told sections node p
+foretold : {sections : List Section} {p : Path} {node : Node} (says : grammar.Node → Type 0)
+    (is : IsNodeAt sections p node) → (grammar.is_made (located sections) p ≡ true → told sections node p
     → says (grammar.made_node (located sections) (grammar.last_at sections) p))
     → (grammar.is_made (located sections) p ≡ false → IfSome (grammar.node_at sections p) says)
     → IsSomeAnd (grammar.node_at sections p) says
-foretold sections p node says is of_header of_row =
-    some (grammar.node_at sections p) (there sections p node is) (go (grammar.is_made (located sections) p) refl)
+foretold {sections} {p} {node} says is of_header of_row =
+    some (grammar.node_at sections p) there (elim (cases_Bool (grammar.is_made (located sections) p)) [
+      | inl made ↦ rw made (of_header made (is_told sections node p is made))
+      | inr not ↦ of_row not
+    ])
   where
+    there : is_some (grammar.node_at sections p) ≡ true
+    there = foretold_there sections p is.keyed is.resolved.within is.resolved.clash
+        (ap (λ d. is_some (data_along p d)) (sym is.resolved.grown) ∙ ap is_some is.stands.holds)
+
     some : (o : Option grammar.Node) → is_some o ≡ true → IfSome o says → IsSomeAnd o says
     some None none said = absurd (false≢true none)
     some (Some found) is said = said
 
-    go : (b : Bool) → grammar.is_made (located sections) p ≡ b → IfSome (grammar.node_at sections p) says
-    go true made = rw made (of_header made (is_told sections node p is made))
-    go false not = of_row not
-
 -- and of what they did not make, where it holds of what rows made
-by_row : (sections : List Section) (p : Path) (node : Node) {says : grammar.Node → Type 0}
+by_row : {sections : List Section} {p : Path} {node : Node} {says : grammar.Node → Type 0}
     → IsNodeAt sections p node → ((found : grammar.Node) → RowTold node found → says found)
     → grammar.is_made (located sections) p ≡ false → IfSome (grammar.node_at sections p) says
-by_row sections p node is says not =
+by_row {sections} {p} {node} is says not =
     IfSome_then (grammar.node_at sections p) (row_told sections p node is not) says
 
 pub made_foretold : (made : Bool) (node : Node) → made ≡ is_made node → (sections : List Section) (p : Path)
     → Foretold sections p node (λ _. made ≡ grammar.is_made (located sections) p)
 made_foretold made node same sections p is =
-    foretold sections p node (λ _. made ≡ grammar.is_made (located sections) p) is
-    (λ there told. same ∙ told.0.made ∙ sym there) (λ not. by_row sections p node is
-    (λ found told. same ∙ told.made ∙ sym not) not)
+    foretold _ is (λ there told. same ∙ told.0.made ∙ sym there)
+    (λ not. by_row is (λ found told. same ∙ told.made ∙ sym not) not)
 
 pub name_foretold : (name : List ℕ) (node : Node) → name ≡ name_of node → (sections : List Section) (p : Path)
     → Foretold sections p node (λ found. name ≡ found.type_name)
 unfolding name_of
-name_foretold name node same sections p is = foretold sections p node (λ found. name ≡ found.type_name) is
-    (λ _ told. same ∙ told.0.name ∙ ap made_name told.1) (by_row sections p node is (λ found told. same ∙ told.name))
+name_foretold name node same sections p is =
+    foretold _ is (λ _ told. same ∙ told.0.name ∙ ap made_name told.1) (by_row is (λ found told. same ∙ told.name))
 
 pub slice_foretold : (slice : Bool) (node : Node) → slice ≡ is_borrowed node
     → ForetoldSlice node (λ slice_there. slice ≡ slice_there)
-slice_foretold slice node same sections p is = foretold sections p node (λ found. slice ≡ found.is_slice) is
-    (λ _ told. same ∙ told.0.slice) (by_row sections p node is (λ found told. same ∙ told.slice))
+slice_foretold slice node same sections p is =
+    foretold _ is (λ _ told. same ∙ told.0.slice) (by_row is (λ found told. same ∙ told.slice))
 
 pub start_foretold : (start : Option ℕ) (node : Node) → start ≡ start_of node → (sections : List Section) (p : Path)
     → Foretold sections p node (λ found. start ≡ found.start)
 unfolding start_of
-start_foretold start node same sections p is = foretold sections p node (λ found. start ≡ found.start) is
-    (λ _ told. same ∙ rw (told.0.made) (last_same sections p node is))
-    (by_row sections p node is (λ found told. same ∙ rw (told.made) told.start))
+start_foretold start node same sections p is =
+    foretold _ is (λ _ told. same ∙ rw (told.0.made) (last_same sections p node is))
+    (by_row is (λ found told. same ∙ rw (told.made) told.start))
 
 pub place_foretold : (place : Option ℕ) (node : Node) → place ≡ offset_of node → (sections : List Section) (p : Path)
     → Foretold sections p node (λ found. place ≡ found.offset)
 unfolding offset_of start_of outer_of
-place_foretold place node same sections p is = foretold sections p node (λ found. place ≡ found.offset) is
-    (λ _ told. same ∙ rw (told.0.made) (one (is_array_literal node.spot) ∙ last_same sections p node is))
+place_foretold place node same sections p is =
+    foretold _ is (λ _ told. same ∙ rw (told.0.made) (one (is_array_literal node.spot) ∙ last_same sections p node is))
     (λ not. some_both (grammar.node_at sections p) (row_outer sections p node is not) (plain_at sections p not)
     (λ found told plain. same ∙ row_place node found told.0 told.1 plain))
   where
     one : (b : Bool) → (if b then last_at node.tree.now else last_at node.tree.now) ≡ last_at node.tree.now
-    one true = refl
-    one false = refl
+    one b = grind arith
 
 pub outer_foretold : (outer : Option ℕ) (node : Node) → outer ≡ outer_of node → (sections : List Section) (p : Path)
     → Foretold sections p node (λ found. outer ≡ found.outer_offset)
 unfolding outer_of
-outer_foretold outer node same sections p is = foretold sections p node (λ found. outer ≡ found.outer_offset) is
-    (λ _ told. same ∙ rw (told.0.made) (last_same sections p node is))
+outer_foretold outer node same sections p is =
+    foretold _ is (λ _ told. same ∙ rw (told.0.made) (last_same sections p node is))
     (λ not. IfSome_then (grammar.node_at sections p) (row_outer sections p node is not)
     (λ found told. same ∙ rw (told.0.made) told.1))
 
 pub keys_foretold : (keys : KeyTexts) (node : Node) → keys ≡ keys_of node → (sections : List Section) (p : Path)
     → Foretold sections p node (λ found. keys ≡ found.key_path)
-keys_foretold keys node same sections p is = foretold sections p node (λ found. keys ≡ found.key_path) is
-    (λ made _. same ∙ made_keys sections p node is made)
+keys_foretold keys node same sections p is =
+    foretold _ is (λ made _. same ∙ made_keys sections p node is made)
     (λ not. IfSome_then (grammar.node_at sections p) (row_keys_told sections node p is not) (λ found told. same ∙ told))

@@ -1,10 +1,9 @@
--- Where the tree of mentions has data at a path, a mention leads there: it goes on from the path, or the path goes on from
--- it into its value.
+-- Where the tree of mentions has data at a path, a mention leads there: it goes on from the path, or the path goes on
+-- from it into its value.
 use Rattle.std.proofs.Common.{◌≡◌, ◌+◌, ℕ, zero, suc, Bool, true, false, List, [], ◌∷◌, Option, Some}
 use Rattle.std.proofs.Common.{None, refl, arith, inl, inr}
 use Rattle.std.specs.Prelude.{◌||◌, ◌&&◌, if◌then◌else◌, is_some, slice_get, nat_eq}
 use Rattle.std.specs.List.{list_any}
-use Rattle.std.specs.Str.{bytes_eq}
 use Rattle.std.specs.Option.{option_and_then}
 use Rattle.std.proofs.lemmas.Bool.{false≢true, or_left, or_right, cases_Bool}
 use Rattle.basic_toml_value.specs.Data.{Data}
@@ -88,12 +87,10 @@ among_branches (number n) bs = slice_get (listed (items_of bs)) n
 
 by_step : (bs : Branches) (s : Step) (p : Path) → is_some (data_along (s ∷ p) (closed_branches bs)) ≡ true
     → is_some (option_and_then (data_along p) (among_branches s bs)) ≡ true
-by_step no_branches (key k) p e = e
-by_step no_branches (number n) p e = e
-by_step (branch (key l) g bs) (key k) p e = e
 by_step (branch (key l) g bs) (number n) p e = absurd (false≢true e)
 by_step (branch (number i) g bs) (key k) p e = absurd (false≢true e)
-by_step (branch (number i) g bs) (number n) p e = e
+by_step no_branches (key k) p e = e
+by_step bs s p e = e
 
 mutual
   closed_reached : (g : Growth) (p : Path) → InTurn g → is_some (data_along p (closed g)) ≡ true → reaches g p ≡ true
@@ -108,10 +105,8 @@ mutual
       → reaches_by bs (key k) p ≡ true
   members_reached no_branches j k p h e = e
   members_reached (branch (number i) g bs) j k p h e = members_reached bs (suc j) k p h.2 e
-  members_reached (branch (key l) g bs) j k p h e = elim (cases_Bool (bytes_eq k l)) [
-    | inl same ↦ rw (turn_eq (key l) (key k), same) (closed_reached g p h.0 (rw same at e))
-    | inr other ↦ rw (turn_eq (key l) (key k), other) (members_reached bs j k p h.1 (rw other at e))
-  ]
+  members_reached (branch (key l) g bs) j k p h e =
+      grind (arith, turn_eq (key l) (key k), closed_reached g p h.0, members_reached bs j k p h.1)
 
   items_reached : (bs : Branches) (j n m : ℕ) (p : Path) → m ≡ j + n → Counts j bs
       → is_some (option_and_then (data_along p) (slice_get (listed (items_of bs)) n)) ≡ true
@@ -119,8 +114,7 @@ mutual
   items_reached no_branches j n m p is h e = e
   items_reached (branch (key l) g bs) j n m p is h e = items_reached bs j n m p is h.1 e
   items_reached (branch (number i) g bs) j zero m p is h e =
-      let same : nat_eq i m ≡ true = grind (arith, is, h.0) in
-      rw same (closed_reached g p h.1 e)
+      let same : nat_eq i m ≡ true = grind (arith, is, h.0) in rw same (closed_reached g p h.1 e)
   items_reached (branch (number i) g bs) j (suc n) m p is h e =
       let other : nat_eq i m ≡ false = grind (arith, is, h.0) in
       rw other (items_reached bs (suc j) n m p (omega (arith, is)) h.2 e)
@@ -137,51 +131,29 @@ abbrev pub any_leads : List Mention → Path → Bool
 any_leads ms p = list_any (λ m. leads m.path m.value p) ms
 
 shoot_leads : (w : Path) (v : Option Data) (p : Path) → reaches (shoot w v) p ≡ true → leads w v p ≡ true
-shoot_leads [] v [] e = refl
-shoot_leads (t ∷ w) v [] e = refl
 shoot_leads [] None (s ∷ p) e = e
-shoot_leads [] (Some d) (s ∷ p) e = e
-shoot_leads (t ∷ w) v (s ∷ p) e = elim (cases_Bool (step_eq t s)) [
-  | inl same ↦ rw same (shoot_leads w v p (rw same at e))
-  | inr other ↦ rw other (rw other at e)
-]
+shoot_leads (t ∷ w) v (s ∷ p) e = grind (arith, shoot_leads w v p)
+shoot_leads w v p e = e
 
 mutual
   grow_leads : (g : Growth) (w : Path) (v : Option Data) (p : Path) → reaches (grow g w v) p ≡ true
       → (reaches g p || leads w v p) ≡ true
   grow_leads (grown o bs) w v [] e = refl
-  grow_leads (grown (Some d) bs) [] v (s ∷ p) e = or_left _ _ e
-  grow_leads (grown None bs) [] None (s ∷ p) e = or_left _ _ e
   grow_leads (grown None bs) [] (Some d) (s ∷ p) e = or_right _ _ e
-  grow_leads (grown (Some d) bs) (t ∷ w) v (s ∷ p) e = or_left _ _ e
   grow_leads (grown None bs) (t ∷ w) v (s ∷ p) e = at_leads bs t w v s p e
+  grow_leads (grown (Some d) bs) [] v (s ∷ p) e = or_left _ _ e
+  grow_leads g w v p e = or_left _ _ e
 
   at_leads : (bs : Branches) (t : Step) (w : Path) (v : Option Data) (s : Step) (p : Path)
       → reaches_by (grow_at bs t w v) s p ≡ true → (reaches_by bs s p || (step_eq t s && leads w v p)) ≡ true
   at_leads no_branches t w v s p e = shoot_leads (t ∷ w) v (s ∷ p) e
-  at_leads (branch r g bs) t w v s p e = elim (cases_Bool (step_eq r t)) [
-    | inl same ↦ elim (cases_Bool (step_eq r s)) [
-      | inl here ↦ rw (← step_is r t same, here) (grow_leads g w v p (rw (same, here) at e))
-      | inr not ↦ rw not (or_left _ _ (rw (same, not) at e))
-    ]
-    | inr other ↦ elim (cases_Bool (step_eq r s)) [
-      | inl here ↦ rw here (or_left _ _ (rw (other, here) at e))
-      | inr not ↦ rw not (at_leads bs t w v s p (rw (other, not) at e))
-    ]
-  ]
-
-one_more : (a b c d : Bool) → (d ≡ true → (a || b) ≡ true) → (d || c) ≡ true → (a || (b || c)) ≡ true
-one_more true b c d first e = refl
-one_more false true c d first e = refl
-one_more false false c false first e = e
-one_more false false c true first e = absurd (false≢true (first refl))
+  at_leads (branch r g bs) t w v s p e = grind (arith, step_is r t, grow_leads g w v p, at_leads bs t w v s p)
 
 all_lead : (ms : List Mention) (g : Growth) (p : Path) → reaches (grow_all g ms) p ≡ true
     → (reaches g p || any_leads ms p) ≡ true
 all_lead [] g p e = or_left (reaches g p) (any_leads [] p) e
 all_lead (m ∷ ms) g p e =
-    one_more (reaches g p) (leads m.path m.value p) (any_leads ms p) (reaches (grow g m.path m.value) p)
-    (λ here. grow_leads g m.path m.value p here) (all_lead ms (grow g m.path m.value) p e)
+    grind (arith, grow_leads g m.path m.value p, all_lead ms (grow g m.path m.value) p e)
 
 pub tree_leads : (ms : List Mention) (s : Step) (p : Path) → InTurn (grow_all nothing_grown ms)
     → is_some (data_along (s ∷ p) (tree_of ms)) ≡ true → any_leads ms (s ∷ p) ≡ true

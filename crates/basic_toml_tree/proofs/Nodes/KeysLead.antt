@@ -1,62 +1,48 @@
 -- Headers that begin with keys.
-use Rattle.std.proofs.Common.{◌≡◌, ◌⊎◌, inl, inr, ◌≤◌, ◌<◌, ℕ, zero, suc, true, false, List, [], ◌∷◌, ◌++◌, length}
-use Rattle.std.proofs.Common.{take, Some, None, refl, ap, sym, ◌∙◌, arith, subst, get_or}
+use Rattle.std.proofs.Common.{◌≡◌, ◌⊎◌, inl, inr, ◌≤◌, ◌<◌, ℕ, true, false, List, [], ◌∷◌, ◌++◌, length, map, min}
+use Rattle.std.proofs.Common.{take, Some, refl, ap, sym, ◌∙◌, arith, get_or}
 use Rattle.std.specs.Prelude.{slice_get, IfSome}
+use Rattle.std.proofs.lemmas.List.{length-map, length-take, get_or-take, get_or_past}
+use Rattle.std.proofs.lemmas.Option.{IfSome_then, get_or_from_slice_get}
 use Rattle.basic_toml_grammar.specs.IndexedPath.{Located, located}
 use Rattle.basic_toml_grammar.specs.Nodes.{is_made}
 use Rattle.basic_toml_grammar.proofs.Clash.PathsAgree.{append_none, keys-append}
-use Rattle.basic_toml_grammar.specs.Sections.{KeyTexts}
+use Rattle.basic_toml_grammar.specs.Sections.{KeyTexts, Section}
 use Rattle.basic_toml_grammar.specs.Steps.{Step, key, number, Path, begins, keys_of}
 use Rattle.basic_toml_read.specs.declared.section.Key.{Key}
 use Rattle.basic_toml_read.specs.SectionView.{header_texts, key_of}
 use Rattle.basic_toml_tree.specs.declared.tree.Tree.{Tree}
-use Rattle.basic_toml_grow.specs.Origins.{table_within}
-use Rattle.basic_toml_tree.specs.Keys.{KeepsHeader, CountsKeys, KeysLead, KeepsRow, RowsLead}
-use Rattle.basic_toml_tree.specs.Stands.{StandsAt, IsBeside}
+use Rattle.basic_toml_tree.specs.Keys.{CountsKeys, KeysLead, KeepsRow, HandsOn, RowsLead}
+use Rattle.basic_toml_tree.specs.Resolve.{IsResolved}
+use Rattle.basic_toml_tree.specs.Stands.{StandsAt, IsBeside, tree_origins}
 use Rattle.basic_toml_tree.specs.declared.node.Node.{Node}
 use Rattle.basic_toml_tree.specs.declared.spot.Spot.{Spot}
-use Rattle.basic_toml_tree.specs.declared.trail.Trail.TheVariants.{Header}
+use Rattle.basic_toml_tree.specs.declared.trail.Trail.{Trail}
+use Rattle.basic_toml_tree.specs.declared.trail.Trail.TheVariants.{Header, Row}
 use Rattle.basic_toml_tree.proofs.HeadersMake.{any_of, of_any}
+use Rattle.basic_toml_tree.proofs.Nodes.NodesInOrder.{mapped_read, read_mapped}
 use Rattle.basic_toml_tree.proofs.Origins.RowsAreNodes.{begins_front}
 
 -- as many texts as keys
-pub text_count : (keys : List Key) → length keys ≡ length (header_texts keys)
-text_count [] = refl
-text_count (k ∷ keys) = ap suc (text_count keys)
+pub text_count : (keys : List Key) → length (header_texts keys) ≡ length keys
+text_count keys = length-map (map key_of keys) (λ k. k.text) ∙ length-map keys key_of
 
--- the text of the key at a number, and past the last
+-- the text of the key at a number
 pub key_there : (keys : List Key) (n : ℕ) (k : Key) → n < length keys → k ≡ get_or keys n k
     → slice_get (header_texts keys) n ≡ Some (key_of k).text
-key_there [] n k within read = absurd (omega (arith, within))
-key_there (l ∷ keys) zero k within read = ap (λ k. Some (key_of k).text) (sym read)
-key_there (l ∷ keys) (suc n) k within read = key_there keys n k (omega (arith, within)) read
+key_there keys n k within read =
+    read_mapped (λ k. k.text) (map key_of keys) n (key_of k) (mapped_read key_of keys n k within read)
 
-pub no_key : (keys : List Key) (n : ℕ) → length keys ≤ n → slice_get (header_texts keys) n ≡ None
-no_key [] n past = refl
-no_key (k ∷ keys) zero past = absurd (omega (arith, past))
-no_key (k ∷ keys) (suc n) past = no_key keys n (omega (arith, past))
-
--- the key at a number of the first so many
+-- the key at a number of the first so many, and past the last of them
 pub among_first : (keys : KeyTexts) (count n : ℕ) (k found : List ℕ) → n < count → slice_get keys n ≡ Some found
     → found ≡ get_or (take count keys) n k
-among_first [] count n k found within there = absurd (cc)
-among_first (l ∷ keys) zero n k found within there = absurd (omega (arith, within))
-among_first (l ∷ keys) (suc count) zero k found within there = let same : l ≡ found = cc in sym same
-among_first (l ∷ keys) (suc count) (suc n) k found within there =
-    among_first keys count n k found (omega (arith, within)) there
+among_first keys count n k found within there =
+    sym (get_or-take count keys n k within ∙ get_or_from_slice_get keys n found k there)
 
-pub past_first : (keys : KeyTexts) (count n : ℕ) (k : List ℕ) → count ≤ n → k ≡ get_or (take count keys) n k
-past_first keys zero n k past = refl
-past_first [] (suc count) n k past = refl
-past_first (l ∷ keys) (suc count) zero k past = absurd (omega (arith, past))
-past_first (l ∷ keys) (suc count) (suc n) k past = past_first keys count n k (omega (arith, past))
-
-pub past_all : (keys : KeyTexts) (count n : ℕ) (k : List ℕ) → slice_get keys n ≡ None
+pub past_first : (keys : KeyTexts) (count n : ℕ) (k : List ℕ) → min count (length keys) ≤ n
     → k ≡ get_or (take count keys) n k
-past_all keys zero n k none = refl
-past_all [] (suc count) n k none = refl
-past_all (l ∷ keys) (suc count) zero k none = absurd (cc)
-past_all (l ∷ keys) (suc count) (suc n) k none = past_all keys count n k none
+past_first keys count n k past =
+    sym (get_or_past (take count keys) n k (omega (arith, length-take count keys, past)))
 
 -- what headers made below a path, and at it
 pub made_before : (ls : List Located) (p : Path) (s : Step) → is_made ls (p ++ s ∷ []) ≡ true → is_made ls p ≡ true
@@ -69,46 +55,78 @@ made_before ls (r ∷ p) s made =
 keys_more : (p : Path) (n : ℕ) → keys_of (p ++ number n ∷ []) ≡ keys_of p
 keys_more p n = keys-append p (number n ∷ []) ∙ append_none (keys_of p)
 
--- The last step of a path is this one, or stands further on.
-abbrev pub EndsAt : Path → Step → Path → Step → Path → Type 0
-EndsAt p s q t r = ((r ≡ []) × (p ≡ q) × (s ≡ t)) ⊎ ((more : Path) × (p ≡ q ++ t ∷ more))
+-- Of two beginnings from which a path goes on, one goes on from the other.
+abbrev pub Beyond : Path → Path → Path → Path → Type 0
+Beyond w y v z = (b : Path) × (v ≡ w ++ b) × (y ≡ b ++ z)
 
-pub last_step : (p q : Path) (s t : Step) (r : Path) → p ++ s ∷ [] ≡ q ++ t ∷ r → EndsAt p s q t r
-last_step [] [] s t r same =
-    let one : s ≡ t = cc in
-    let rest : r ≡ [] = cc in inl (rest, refl, one)
-last_step [] (u ∷ []) s t r same = absurd (cc)
-last_step [] (u ∷ v ∷ q) s t r same = absurd (cc)
-last_step (u ∷ p) [] s t r same = let first : u ≡ t = cc in inr (p, ap (λ u. u ∷ p) first)
-last_step (u ∷ p) (v ∷ q) s t r same =
-    let first : u ≡ v = cc in
-    let rest : p ++ s ∷ [] ≡ q ++ t ∷ r = cc in
-    elim (last_step p q s t r rest) [
-      | inl one ↦ inl (one.0, ap (λ u. u ∷ p) first ∙ ap (λ p. v ∷ p) one.1, one.2)
-      | inr further ↦ inr (further.0, ap (λ u. u ∷ p) first ∙ ap (λ p. v ∷ p) further.1)
+pub compare : (w y v z : Path) → w ++ y ≡ v ++ z → Beyond w y v z ⊎ Beyond v z w y
+compare [] y v z same = inl (v, refl, same)
+compare (s ∷ w) y [] z same = inr (s ∷ w, refl, sym same)
+compare (s ∷ w) y (t ∷ v) z same =
+    let first : s ≡ t = cc in
+    let rest : w ++ y ≡ v ++ z = cc in
+    elim (compare w y v z rest) [
+      | inl b ↦ inl (b.0, ap (λ t. t ∷ v) (sym first) ∙ ap (λ p. s ∷ p) b.1, b.2)
+      | inr b ↦ inr (b.0, ap (λ s. s ∷ w) first ∙ ap (λ p. t ∷ p) b.1, b.2)
     ]
 
-module _ (from node : Node) (here : Spot) (n : ℕ) (beside : IsBeside from here node) (tree : Tree) (p : Path)
-    (stands : StandsAt tree p from) where
-  pub keys_beside : KeysLead tree (p ++ number n ∷ []) node
-  keys_beside sections resolved made =
-      let before = stands.keys sections resolved (made_before (located sections) p (number n) made) in
-      subst (λ keys. KeepsHeader tree keys node.trail) (sym (keys_more p n))
-      (subst (λ kept. KeepsHeader tree (keys_of p) kept) (sym beside.trail) before)
+-- The last step of a path is this one, or stands further on.
+abbrev EndsAt : Path → Step → Path → Step → Type 0
+EndsAt p s q t = ((p ≡ q) × (s ≡ t)) ⊎ ((more : Path) × (p ≡ q ++ t ∷ more))
 
-  pub count_beside : CountsKeys tree (p ++ number n ∷ []) node
-  count_beside sections resolved =
-      beside.count ∙ stands.count sections resolved ∙ ap length (sym (keys_more p n))
+last_step : (p q : Path) (s t : Step) (r : Path) → p ++ s ∷ [] ≡ q ++ t ∷ r → EndsAt p s q t
+last_step p q s t r same = elim (compare p (s ∷ []) q (t ∷ r) same) [ | inl on ↦ here on | inr on ↦ further on ]
+  where
+    here : Beyond p (s ∷ []) q (t ∷ r) → EndsAt p s q t
+    here ([], at, rest) = let one : s ≡ t = cc in inl (sym (at ∙ append_none p), one)
+    here (u ∷ [], at, rest) = absurd (cc)
+    here (u ∷ v ∷ b, at, rest) = absurd (cc)
 
-  -- it is below the key that its array is below
-  pub rows_beside : RowsLead tree (p ++ number n ∷ []) node
-  rows_beside sections resolved q k r same made = elim (last_step p q (number n) (key k) r same) [
-    | inl one ↦ absurd (cc (one.2))
-    | inr further ↦
-        subst (λ trail. IfSome ((table_within tree.root).below (q ++ key k ∷ []))
-        (λ o. o.made ≡ false → KeepsRow tree o.section (keys_of q) k trail)) (sym beside.trail)
-        (stands.rows sections resolved q k further.0 further.1 made)
-  ]
+    further : Beyond q (t ∷ r) p (s ∷ []) → EndsAt p s q t
+    further ([], at, rest) = let one : s ≡ t = cc in inl (at ∙ append_none q, one)
+    further (u ∷ b, at, rest) = let one : t ≡ u = cc in inr (b, at ∙ ap (λ u. q ++ u ∷ b) (sym one))
+
+-- a node that hands on what is kept keeps the same row
+row_on : (from node : Node) → HandsOn from node.trail → (tree : Tree) (n : ℕ) (keys : KeyTexts) (k : List ℕ)
+    → KeepsRow tree n keys k from.trail → KeepsRow tree n keys k node.trail
+row_on from node hands tree n keys k kept = go from.trail refl kept
+  where
+    go : (t : Trail) → from.trail ≡ t → KeepsRow tree n keys k t → KeepsRow tree n keys k node.trail
+    go (Header m) is kept = absurd kept
+    go (Row m first) is kept = rw (hands m first is, is) kept
+
+-- one step on from a table that headers made, the row is kept that put there what is there
+abbrev pub BeginsAt : Tree → Path → Step → Node → Type 0
+BeginsAt tree p s node =
+    (sections : List Section) → IsResolved sections tree → (k : List ℕ) → s ≡ key k
+    → is_made (located sections) p ≡ true
+    → IfSome (tree_origins tree (p ++ s ∷ [])) (λ o. o.made ≡ false → KeepsRow tree o.section (keys_of p) k node.trail)
+
+-- one step on from a node, whose row is handed on
+pub rows_on : (from node : Node) (s : Step) → HandsOn from node.trail → (tree : Tree) (p : Path) → StandsAt tree p from
+    → BeginsAt tree p s node → RowsLead tree (p ++ s ∷ []) node
+rows_on from node s hands tree p stands begins sections resolved q k r same made =
+    elim (last_step p q s (key k) r same) [
+      | inl one ↦ rw (← (one.0), ← (one.1)) (begins sections resolved k one.1 (rw (one.0) made))
+      | inr further ↦
+          IfSome_then (tree_origins tree (q ++ key k ∷ [])) (stands.rows sections resolved q k further.0 further.1 made)
+          (λ o kept apart. row_on from node hands tree o.section (keys_of q) k (kept apart))
+    ]
+
+-- what a node keeps of the keys that lead to it
+abbrev pub KeepsKeys : Tree → Path → Node → Type 0
+KeepsKeys tree p node = CountsKeys tree p node × KeysLead tree p node × RowsLead tree p node
+
+-- an element keeps what its array keeps: it is below the key that its array is below
+pub keys_beside : (from node : Node) (here : Spot) (n : ℕ) → IsBeside from here node → (tree : Tree) (p : Path)
+    → StandsAt tree p from → KeepsKeys tree (p ++ number n ∷ []) node
+keys_beside from node here n beside tree p stands = (
+  λ sections resolved. beside.count ∙ stands.count sections resolved ∙ ap length (sym (keys_more p n)),
+  λ sections resolved made.
+  let before = stands.keys sections resolved (made_before (located sections) p (number n) made) in
+  rw (keys_more p n, beside.trail) before,
+  rows_on from node (number n) (λ m first is. beside.trail) tree p stands (λ sections resolved k is. absurd (cc)),
+)
 
 -- the root, to which no key leads
 pub root_rows : (tree : Tree) (node : Node) → RowsLead tree [] node

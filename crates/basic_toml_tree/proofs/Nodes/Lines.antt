@@ -1,9 +1,11 @@
 -- Rows as one list of lines, each with its whole path: which line a path leads to, and where the table around what
 -- stands there begins.
 use Rattle.std.proofs.Common.{◌≡◌, ℕ, Bool, true, false, List, [], ◌∷◌, ◌++◌, Option, Some, None, refl, ap, sym, ◌∙◌}
-use Rattle.std.proofs.Common.{subst, length, drop, inl, inr}
+use Rattle.std.proofs.Common.{length, drop, inl, inr}
 use Rattle.std.specs.Prelude.{◌&&◌, if◌then◌else◌}
 use Rattle.std.specs.List.{list_any}
+use Rattle.std.proofs.Math.Bool.{and-false, and-true}
+use Rattle.std.proofs.Math.Seq.{drop-append_seam}
 use Rattle.std.proofs.lemmas.Bool.{false≢true, and_parts, or_parts, or_right, cases_Bool, false_from_ne_true}
 use Rattle.basic_toml_grammar.specs.Sections.{KeyTexts, Raw}
 use Rattle.basic_toml_grammar.specs.Steps.{Step, key, number, Path, step_eq, begins, overlap, steps_of}
@@ -12,6 +14,8 @@ use Rattle.basic_toml_grammar.proofs.AmongElements.{Among, first, next}
 use Rattle.basic_toml_grammar.proofs.Clash.PathsAgree.{append_none}
 use Rattle.basic_toml_grammar.proofs.Clash.StepTestsDecide.{step_is, step_same, begins_itself}
 use Rattle.basic_toml_tree.specs.Outer.{no_keys, around}
+use Rattle.basic_toml_tree.specs.Stands.{is_root}
+use Rattle.basic_toml_tree.proofs.HeadersMake.{of_any}
 use Rattle.basic_toml_tree.proofs.Origins.RowsAreNodes.{goes_on}
 
 -- a path that ends with a key
@@ -23,6 +27,11 @@ abbrev pub ends_key : Path → Bool
 ends_key [] = false
 ends_key (s ∷ []) = is_key s
 ends_key (s ∷ t ∷ p) = ends_key (t ∷ p)
+
+pub begun : (p q : Path) → ends_key p ≡ true → begins p q ≡ true → is_root q ≡ false
+begun [] q ends on = absurd (false≢true ends)
+begun (s ∷ p) [] ends on = absurd (false≢true on)
+begun (s ∷ p) (t ∷ q) ends on = refl
 
 pub keys_end : (base : Path) (k : List ℕ) (ks : KeyTexts) → ends_key (base ++ steps_of (k ∷ ks)) ≡ true
 keys_end [] k [] = refl
@@ -42,10 +51,10 @@ ends_in_keys (s ∷ t ∷ p) [] (k ∷ ks) here not =
     ends_in_keys (t ∷ p) [] ks both.1 refl
 ends_in_keys (s ∷ []) (b ∷ base) ks here not =
     let both = and_parts (step_eq s b) (begins [] (base ++ steps_of ks)) here in
-    absurd (false≢true (sym not ∙ ap (λ e. e && begins [] base) both.0))
+    absurd (false≢true (sym (rw (both.0) at not)))
 ends_in_keys (s ∷ t ∷ p) (b ∷ base) ks here not =
     let both = and_parts (step_eq s b) (begins (t ∷ p) (base ++ steps_of ks)) here in
-    ends_in_keys (t ∷ p) base ks both.1 (sym (ap (λ e. e && begins (t ∷ p) base) both.0) ∙ not)
+    ends_in_keys (t ∷ p) base ks both.1 (rw (both.0) at not)
 
 some_key : (p : Path) → ends_key p ≡ true → no_keys p ≡ false
 some_key [] e = absurd (false≢true e)
@@ -53,27 +62,20 @@ some_key (key k ∷ p) e = refl
 some_key (number n ∷ []) e = absurd (false≢true e)
 some_key (number n ∷ t ∷ p) e = some_key (t ∷ p) e
 
-keys_left : (p x : Path) → no_keys p ≡ false → no_keys (p ++ x) ≡ false
-keys_left [] x e = absurd (false≢true (sym e))
-keys_left (key k ∷ p) x e = refl
-keys_left (number n ∷ p) x e = keys_left p x e
-
-keys_right : (p x : Path) → no_keys x ≡ false → no_keys (p ++ x) ≡ false
-keys_right [] x e = e
-keys_right (key k ∷ p) x e = refl
-keys_right (number n ∷ p) x e = keys_right p x e
+keys_both : (p x : Path) → no_keys (p ++ x) ≡ (no_keys p && no_keys x)
+keys_both [] x = refl
+keys_both (key k ∷ p) x = refl
+keys_both (number n ∷ p) x = keys_both p x
 
 around_front : (p x : Path) → ends_key p ≡ true → no_keys x ≡ true → around (p ++ x) ≡ front p
 around_front [] x e none = absurd (false≢true e)
-around_front (s ∷ []) x e none = ap (λ b. if b then [] else s ∷ around x) none
+around_front (s ∷ []) x e none = rw none refl
 around_front (s ∷ t ∷ p) x e none =
-    ap (λ b. if b then [] else s ∷ around ((t ∷ p) ++ x)) (keys_left (t ∷ p) x (some_key (t ∷ p) e))
-    ∙ ap (λ q. s ∷ q) (around_front (t ∷ p) x e none)
+    rw (keys_both (t ∷ p) x, some_key (t ∷ p) e) (ap (λ q. s ∷ q) (around_front (t ∷ p) x e none))
 
 around_on : (p x : Path) → no_keys x ≡ false → around (p ++ x) ≡ p ++ around x
 around_on [] x e = refl
-around_on (s ∷ p) x e =
-    ap (λ b. if b then [] else s ∷ around (p ++ x)) (keys_right p x e) ∙ ap (λ q. s ∷ q) (around_on p x e)
+around_on (s ∷ p) x e = rw (keys_both p x, e, and-false (no_keys p)) (ap (λ q. s ∷ q) (around_on p x e))
 
 around_begins : (p : Path) → begins (around p) p ≡ true
 around_begins [] = refl
@@ -86,16 +88,9 @@ around_begins (s ∷ p) = elim (cases_Bool (no_keys p)) [
 pub around_key : (p : Path) (k : List ℕ) → around (p ++ key k ∷ []) ≡ p
 around_key p k = around_on p (key k ∷ []) refl ∙ append_none p
 
-still_none : (p : Path) (n : ℕ) → no_keys (p ++ number n ∷ []) ≡ no_keys p
-still_none [] n = refl
-still_none (key k ∷ p) n = refl
-still_none (number m ∷ p) n = still_none p n
-
 pub around_number : (p : Path) (n : ℕ) → around (p ++ number n ∷ []) ≡ around p
 around_number [] n = refl
-around_number (s ∷ p) n =
-    ap (λ b. if b then [] else s ∷ around (p ++ number n ∷ [])) (still_none p n)
-    ∙ ap (λ q. if no_keys p then [] else s ∷ q) (around_number p n)
+around_number (s ∷ p) n = rw (keys_both p (number n ∷ []), and-true (no_keys p), around_number p n) refl
 
 front_begins : (p : Path) → begins (front p) p ≡ true
 front_begins [] = refl
@@ -112,11 +107,7 @@ goes_by [] q e = refl
 goes_by (s ∷ p) [] e = absurd (false≢true e)
 goes_by (s ∷ p) (t ∷ q) e =
     let both = and_parts (step_eq s t) (begins p q) e in
-    ap (λ u. u ∷ q) (sym (step_is s t both.0)) ∙ ap (λ q. s ∷ q) (goes_by p q both.1)
-
-dropped : (p x : Path) → drop (length p) (p ++ x) ≡ x
-dropped [] x = refl
-dropped (s ∷ p) x = dropped p x
+    rw (step_is s t both.0) (ap (λ q. t ∷ q) (goes_by p q both.1))
 
 -- a row, with the path of its table
 pub record Line : Type 0 where
@@ -162,10 +153,9 @@ pub data Apart : List Line → Type 0 where
   none : Apart []
   more : {e : Line} {es : List Line} → list_any (meets e) es ≡ false → Apart es → Apart (e ∷ es)
 
-pub not_met : (e f : Line) (es : List Line) → list_any (meets e) es ≡ false → Among f es → meets e f ≡ false
-not_met e f [] free a = elim a [ ]
-not_met e f (g ∷ es) free first = (or_parts (meets e g) (list_any (meets e) es) free).0
-not_met e f (g ∷ es) free (next a) = not_met e f es (or_parts (meets e g) (list_any (meets e) es) free).1 a
+-- where no element passes, none of them does
+pub none_passes : {A : Type 0} {x : A} {xs : List A} (f : A → Bool) → list_any f xs ≡ false → Among x xs → f x ≡ false
+none_passes f free a = false_from_ne_true _ (λ e. false≢true (sym free ∙ of_any f a e))
 
 -- the node of a path, and the table around it: below a line, or on the way to one
 pub data Found (holder : Path → Option ℕ) (p : Path) (es : List Line) (n : Node) : Type 0 where
@@ -186,9 +176,9 @@ module _ (holder : Path → Option ℕ) (p : Path) where
   later : (e : Line) (es : List Line) (n : Node) → begins (path_of e) p ≡ false → list_any (meets e) es ≡ false
       → Found holder p es n → Found holder p (e ∷ es) n
   later e es n not free (within m f a ends here chosen same) =
-      let apart = false_from_ne_true (begins (around p) (path_of e)) (λ x. false≢true (sym (not_met e f es free a)
-      ∙ or_right (begins (path_of e) (path_of f)) (begins (path_of f) (path_of e))
-      (goes_on (path_of f) (around p) (path_of e) here x))) in
+      let apart = false_from_ne_true (begins (around p) (path_of e)) (λ x.
+      false≢true (sym (none_passes (meets e) free a) ∙ or_right (begins (path_of e) (path_of f))
+      (begins (path_of f) (path_of e)) (goes_on (path_of f) (around p) (path_of e) here x))) in
       within m f (next a) ends here (rw (off e not, apart) chosen) same
   later e es n not free (by_rows m chosen start same) = elim (cases_Bool (begins (around p) (path_of e))) [
     | inl x ↦ by_rows (dotted_node e.names (holder (front (around p))) e.at) (rw (off e not, x) refl) (rw x refl) same
@@ -211,28 +201,24 @@ module _ (holder : Path → Option ℕ) (p : Path) where
       go : (b : Bool) → no_keys x ≡ b → Found holder p (e ∷ es) n
       go true empty =
           let there : around p ≡ front (path_of e) = ap around goes ∙ around_front (path_of e) x ends empty in
-          let short : begins (path_of e) (around p) ≡ false =
-          ap (begins (path_of e)) there ∙ front_short (path_of e) ends in
-          let long : begins (around p) (path_of e) ≡ true =
-          ap (λ q. begins q (path_of e)) there ∙ front_begins (path_of e) in
+          let short : begins (path_of e) (around p) ≡ false = rw there (front_short (path_of e) ends) in
+          let long : begins (around p) (path_of e) ≡ true = rw there (front_begins (path_of e)) in
           by_rows (dotted_node e.names (holder (front (around p))) e.at) (rw (short, long) refl) (rw long refl)
           (told.bare e.names (holder (front (path_of e))) e.at x n is empty ∙ ap holder (sym there))
       go false some =
           let there : around p ≡ path_of e ++ around x = ap around goes ∙ around_on (path_of e) x some in
           let m = told.deep e.names (holder (front (path_of e))) e.at x n is some in
-          let under : begins (path_of e) (around p) ≡ true =
-          ap (begins (path_of e)) there ∙ begins_itself (path_of e) (around x) in
+          let under : begins (path_of e) (around p) ≡ true = rw there (begins_itself (path_of e) (around x)) in
           let left : drop (length (path_of e)) (around p) ≡ around x =
-          ap (drop (length (path_of e))) there ∙ dropped (path_of e) (around x) in
-          within m.0 e first ends under
-          (rw under (ap (node_in e.names (holder (front (path_of e))) e.at e.value) left ∙ m.1)) m.2
+          rw there (drop-append_seam (path_of e) (around x)) in
+          within m.0 e first ends under (rw (under, left) m.1) m.2
 
   -- a line that goes on from the path
   crossing : (e : Line) (es : List Line) → begins (path_of e) p ≡ false → begins p (path_of e) ≡ true
       → begins p e.base ≡ false → Found holder p (e ∷ es) (dotted_node e.names (holder (front p)) e.at)
   crossing e es not on apart =
       let there : around p ≡ front p =
-      ap around (sym (append_none p)) ∙ around_front p [] (ends_in_keys p e.base e.steps on apart) refl in
+      rw append_none at (around_front p [] (ends_in_keys p e.base e.steps on apart) refl) in
       let long : begins (around p) (path_of e) ≡ true = goes_on (around p) p (path_of e) (around_begins p) on in
       by_rows (dotted_node e.names (holder (front (around p))) e.at) (rw (off e not, long) refl) (rw long refl)
       (ap holder (sym there))
@@ -247,7 +233,7 @@ module _ (holder : Path → Option ℕ) (p : Path) where
         | inr x ↦ elim (cases_Bool (begins p (path_of e))) [
           | inl y ↦
               let same : dotted_node e.names (holder (front p)) e.at ≡ n = cc (rw (x, y) at is) in
-              subst (λ n. Found holder p (e ∷ es) n) same (crossing e es x y both.0)
+              rw (← same) (crossing e es x y both.0)
           | inr y ↦ later e es n x free (found es rest sound both.1 n (rw (x, y) at is))
         ]
       ]

@@ -1,10 +1,10 @@
 -- The rows of values and of section lists, as lines: no line meets another one, and what is told of the nodes in their
 -- values.
 use Rattle.std.proofs.Common.{◌≡◌, ℕ, zero, suc, true, false, List, [], ◌∷◌, ◌++◌, Option}
-use Rattle.std.proofs.Common.{Some, None, refl, ap, sym, ◌∙◌, length, drop, inl, inr}
-use Rattle.std.specs.Prelude.{◌||◌, ◌&&◌, if◌then◌else◌}
+use Rattle.std.proofs.Common.{Some, None, refl, sym, ◌∙◌, inl, inr}
+use Rattle.std.specs.Prelude.{◌||◌}
 use Rattle.std.specs.List.{list_any, list_all}
-use Rattle.std.proofs.lemmas.Bool.{false≢true, and_parts, or_parts, or_from, false_from_ne_true, cases_Bool}
+use Rattle.std.proofs.lemmas.Bool.{false≢true, and_parts, or_parts, false_from_ne_true, cases_Bool}
 use Rattle.basic_toml_value.specs.Data.{Data}
 use Rattle.basic_toml_grammar.specs.Sections.{Key, KeyTexts, texts, Raw, Elements, no_elements, element, Rows, no_rows}
 use Rattle.basic_toml_grammar.specs.Sections.{row}
@@ -14,13 +14,12 @@ use Rattle.basic_toml_grammar.specs.IndexedPath.{Located}
 use Rattle.basic_toml_grammar.specs.Entering.{keyed_within, value_keyed, elements_keyed}
 use Rattle.basic_toml_grammar.specs.Mentions.{finished, row_mentions, mentions}
 use Rattle.basic_toml_grammar.specs.NamedClash.{first_key}
-use Rattle.basic_toml_grammar.specs.Nodes.{Node, front, value_node, dotted_node, dotted_start, holder_in, node_in}
-use Rattle.basic_toml_grammar.specs.Nodes.{node_among, node_by}
+use Rattle.basic_toml_grammar.specs.Nodes.{Node, value_node, dotted_start, holder_in, node_in, node_among, node_by}
 use Rattle.basic_toml_grammar.specs.Tree.{Mention}
 use Rattle.basic_toml_grammar.proofs.Clash.ClashesAgree.{turn_eq}
 use Rattle.basic_toml_grammar.proofs.Nesting.TreeIsAsDeepAsMentions.{bars, barred_by, mention, Peace}
 use Rattle.basic_toml_tree.specs.Outer.{no_keys, around}
-use Rattle.basic_toml_tree.proofs.Nodes.Lines.{ends_key, keys_end, Line, path_of, choose, start_among, Sound}
+use Rattle.basic_toml_tree.proofs.Nodes.Lines.{begun, keys_end, Line, path_of, choose, start_among, Sound}
 use Rattle.basic_toml_tree.proofs.Nodes.Lines.{meets, Apart, Found, within, by_rows, found}
 
 -- rows below a path, each with the key path that its nodes have
@@ -40,8 +39,7 @@ all_lines (l ∷ ls) = lines_of l.path (names_of l) l.section.rows ++ all_lines 
 rows_overlap : (name : List Key → KeyTexts) (e : Line) (rows : Rows)
     → list_any (meets e) (lines_of [] name rows) ≡ any_overlaps (path_of e) rows
 rows_overlap name e no_rows = refl
-rows_overlap name e (row ks at v rows) =
-    ap (λ b. overlap (path_of e) (steps_of (texts ks)) || b) (rows_overlap name e rows)
+rows_overlap name e (row ks at v rows) = rw (rows_overlap name e rows) refl
 
 rows_apart : (name : List Key → KeyTexts) (rows : Rows) → rows_clash rows ≡ false → Apart (lines_of [] name rows)
 rows_apart name no_rows free = Apart.none
@@ -55,26 +53,17 @@ rows_apart name (row ks at v rows) free =
 by_lines : (names : KeyTexts) (outer : Option ℕ) (all rows : Rows) (p : Path)
     → node_by names outer all rows p ≡ choose (holder_in outer all) (lines_of [] (λ ks. names) rows) p
 by_lines names outer all no_rows p = refl
-by_lines names outer all (row ks at v rows) p =
-    let steps = steps_of (texts ks) in
-    ap (λ n. if begins steps p then node_in names (holder_in outer all (front steps)) at v (drop (length steps) p)
-    else if begins p steps then Some (dotted_node names (holder_in outer all (front p)) at) else n)
-    (by_lines names outer all rows p)
+by_lines names outer all (row ks at v rows) p = rw (by_lines names outer all rows p) refl
 
 starts_by_lines : (name : List Key → KeyTexts) (rows : Rows) (p : Path)
     → dotted_start rows p ≡ start_among (lines_of [] name rows) p
 starts_by_lines name no_rows p = refl
-starts_by_lines name (row ks at v rows) p =
-    ap (λ o. if begins p (steps_of (texts ks)) then Some at else o) (starts_by_lines name rows p)
+starts_by_lines name (row ks at v rows) p = rw (starts_by_lines name rows p) refl
 
 no_base : (name : List Key → KeyTexts) (rows : Rows) (s : Step) (p : Path)
     → list_any (λ (e : Line). begins (s ∷ p) e.base) (lines_of [] name rows) ≡ false
 no_base name no_rows s p = refl
 no_base name (row ks at v rows) s p = no_base name rows s p
-
-not_at_root : (p : Path) → ends_key p ≡ true → begins p [] ≡ true → ⊥
-not_at_root [] ends at = false≢true ends
-not_at_root (s ∷ p) ends at = false≢true at
 
 -- a node of an inline table
 module _ (names : KeyTexts) (outer : Option ℕ) (at : ℕ) (rows : Rows) (k : List ℕ) (p : Path) (n : Node) where
@@ -82,42 +71,25 @@ module _ (names : KeyTexts) (outer : Option ℕ) (at : ℕ) (rows : Rows) (k : L
   Below = (m : Node) × (node_in names outer at (Raw.inline rows) (around (key k ∷ p)) ≡ Some m)
       × (n.outer_offset ≡ m.start)
 
-  there : around (key k ∷ p) ≡ key k ∷ around p → (m : Node)
-      → choose (holder_in (Some at) rows) (lines_of [] (λ ks. names) rows) (around (key k ∷ p)) ≡ Some m
-      → node_in names outer at (Raw.inline rows) (around (key k ∷ p)) ≡ Some m
-  there on m chosen =
-      ap (node_in names outer at (Raw.inline rows)) on ∙ by_lines names (Some at) rows rows (key k ∷ around p)
-      ∙ ap (choose (holder_in (Some at) rows) (lines_of [] (λ ks. names) rows)) (sym on) ∙ chosen
-
   of_inline : Found (holder_in (Some at) rows) (key k ∷ p) (lines_of [] (λ ks. names) rows) n → Below
   of_inline (within m l a ends here chosen same) = elim (cases_Bool (no_keys p)) [
-    | inl e ↦
-        let root : around (key k ∷ p) ≡ [] = ap (λ b. if b then [] else key k ∷ around p) e in
-        absurd (not_at_root (path_of l) ends (ap (begins (path_of l)) (sym root) ∙ here))
-    | inr e ↦ (m, there (ap (λ b. if b then [] else key k ∷ around p) e) m chosen, same)
+    | inl e ↦ absurd (false≢true (sym (begun (path_of l) [] ends (rw e at here))))
+    | inr e ↦ (m, rw e (by_lines names (Some at) rows rows (key k ∷ around p) ∙ (rw e at chosen)), same)
   ]
   of_inline (by_rows m chosen start same) = elim (cases_Bool (no_keys p)) [
-    | inl e ↦
-        let root : around (key k ∷ p) ≡ [] = ap (λ b. if b then [] else key k ∷ around p) e in (
-          value_node names outer at (Raw.inline rows),
-          ap (node_in names outer at (Raw.inline rows)) root,
-          same ∙ ap (holder_in (Some at) rows) root,
-        )
-    | inr e ↦
-        let on : around (key k ∷ p) ≡ key k ∷ around p = ap (λ b. if b then [] else key k ∷ around p) e in (
-          m,
-          there on m chosen,
-          same ∙ ap (holder_in (Some at) rows) on ∙ starts_by_lines (λ ks. names) rows (key k ∷ around p)
-              ∙ ap (start_among (lines_of [] (λ ks. names) rows)) (sym on) ∙ sym start,
-        )
+    | inl e ↦ (value_node names outer at (Raw.inline rows), rw e refl, rw e at same)
+    | inr e ↦ (
+      m,
+      rw e (by_lines names (Some at) rows rows (key k ∷ around p) ∙ (rw e at chosen)),
+      (rw e at same) ∙ starts_by_lines (λ ks. names) rows (key k ∷ around p) ∙ sym (rw e at start),
+    )
   ]
 
 -- with no key on the way the outer offset is that of the value
 mutual
   bare_in : (v : Raw) (names : KeyTexts) (outer : Option ℕ) (at : ℕ) (x : Path) (n : Node)
       → node_in names outer at v x ≡ Some n → no_keys x ≡ true → n.outer_offset ≡ outer
-  bare_in v names outer at [] n is none = let same : value_node names outer at v ≡ n = cc in
-      sym (ap (λ n. n.outer_offset) same)
+  bare_in v names outer at [] n is none = let same : value_node names outer at v ≡ n = cc in rw (← same) refl
   bare_in v names outer at (key k ∷ x) n is none = absurd (false≢true none)
   bare_in (Raw.array es) names outer at (number i ∷ x) n is none = bare_among es names outer i x n is none
   bare_in v names outer at (number i ∷ x) n is none = absurd (cc)
@@ -142,15 +114,15 @@ mutual
   deep_in : (v : Raw) → value_clashes v ≡ false → value_keyed v ≡ true → DeepIn v
   deep_in (Raw.array es) free keyed names outer at (number i ∷ x) n is some =
       let m = deep_among es free keyed names outer i x n is some in
-      (m.0, ap (λ b. node_in names outer at (Raw.array es) (if b then [] else number i ∷ around x)) some ∙ m.1, m.2)
+      (m.0, rw some m.1, m.2)
   deep_in (Raw.inline rows) free keyed names outer at (key k ∷ x) n is some =
       of_inline names outer at rows k x n
-      (found (holder_in (Some at) rows) (key k ∷ x) (lines_of [] (λ ks. names) rows) (rows_apart (λ ks. names) rows free)
-      (rows_sound [] (λ ks. names) rows free keyed) (no_base (λ ks. names) rows (key k) x) n
+      (found (holder_in (Some at) rows) (key k ∷ x) (lines_of [] (λ ks. names) rows)
+      (rows_apart (λ ks. names) rows free) (rows_sound [] (λ ks. names) rows free keyed)
+      (no_base (λ ks. names) rows (key k) x) n
       (sym (by_lines names (Some at) rows rows (key k ∷ x)) ∙ is))
   deep_in v free keyed names outer at [] n is some = absurd (false≢true (sym some))
-  deep_in v free keyed names outer at (key k ∷ x) n is some = absurd (cc)
-  deep_in v free keyed names outer at (number i ∷ x) n is some = absurd (cc)
+  deep_in v free keyed names outer at x n is some = absurd (cc)
 
   deep_among : (es : Elements) → elements_clash es ≡ false → elements_keyed es ≡ true → DeepAmong es
   deep_among no_elements free keyed names outer i x n is some = absurd (cc)
@@ -195,12 +167,10 @@ overlap_barred (s ∷ p) [] d c e = refl
 overlap_barred (s ∷ p) (t ∷ q) d c e = elim (cases_Bool (step_eq s t)) [
   | inl x ↦
       let back : step_eq t s ≡ true = turn_eq t s ∙ x in
-      rw x (overlap_barred p q d c (sym (ap (λ b. (b && begins p q) || (step_eq t s && begins q p)) x
-      ∙ ap (λ b. begins p q || (b && begins q p)) back) ∙ e))
+      rw x (overlap_barred p q d c (rw (x, back) at e))
   | inr x ↦
       let back : step_eq t s ≡ false = turn_eq t s ∙ x in
-      absurd (false≢true (sym (ap (λ b. (b && begins p q) || (step_eq t s && begins q p)) x
-      ∙ ap (λ b. b && begins q p) back) ∙ e))
+      absurd (false≢true (rw (x, back) at e))
 ]
 
 not_overlap : (p q : Path) (d c : Data) → bars p (Some d) q (Some c) ≡ false → overlap p q ≡ false
@@ -216,8 +186,7 @@ free_rows e d base name (row ks at v rows) ms es rest free =
     let path = base ++ steps_of (texts ks) in
     let split = or_parts (bars (path_of e) (Some d) path (Some (finished v)))
     (list_any (barred_by (mention (path_of e) (Some d))) (row_mentions base rows ++ ms)) free in
-    or_from (overlap (path_of e) path) (list_any (meets e) (lines_of base name rows ++ es))
-    (not_overlap (path_of e) path d (finished v) split.0) (free_rows e d base name rows ms es rest split.1)
+    rw (not_overlap (path_of e) path d (finished v) split.0) (free_rows e d base name rows ms es rest split.1)
 
 free_all : (e : Line) (d : Data) (ls : List Located)
     → list_any (barred_by (mention (path_of e) (Some d))) (mentions ls) ≡ false

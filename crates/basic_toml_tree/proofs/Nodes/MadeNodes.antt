@@ -5,9 +5,9 @@ use Rattle.std.specs.Prelude.{◌||◌, if◌then◌else◌}
 use Rattle.std.specs.Borrow.{Bor}
 use Rattle.std.proofs.lemmas.Bool.{false≢true, or_left, or_right}
 use Rattle.basic_toml_grammar.specs.Sections.{Section}
-use Rattle.basic_toml_grammar.specs.Steps.{Step, Path}
+use Rattle.basic_toml_grammar.specs.Steps.{Path}
 use Rattle.basic_toml_grammar.specs.IndexedPath.{located}
-use Rattle.basic_toml_grammar.specs.Standing.{Standing, table, value}
+use Rattle.basic_toml_grammar.specs.Standing.{Standing, table}
 use Rattle.basic_toml_grammar.specs.Trie.{Trie, nothing, standing, below}
 use Rattle.basic_toml_grammar.specs.Nodes as grammar
 use Rattle.basic_toml_grammar.proofs.Tries.MarksInATrie.{descend, standing_of}
@@ -23,8 +23,7 @@ use Rattle.basic_toml_tree.specs.declared.spot.Spot.TheVariants as spots
 use Rattle.basic_toml_grow.specs.Item.{item_trie, table_trie}
 use Rattle.basic_toml_tree.specs.Headers.{last_of}
 use Rattle.basic_toml_tree.specs.HeaderTables.{table_of}
-use Rattle.basic_toml_tree.specs.Origin.{spot_is_made, is_made, spot_name, holds_tables, item_name, last_at}
-use Rattle.basic_toml_tree.specs.Origin.{spot_is_borrowed, holds_string}
+use Rattle.basic_toml_tree.specs.Origin.{spot_is_made, is_made, spot_name, last_at, spot_is_borrowed}
 use Rattle.basic_toml_tree.specs.FirstStop.{Stands, only_root}
 use Rattle.basic_toml_tree.specs.Resolve.{head}
 use Rattle.basic_toml_tree.specs.Stands.{trie_at, tree_trie, spot_trie, wraps_table, is_wrapper, is_root, IsNodeAt}
@@ -45,34 +44,23 @@ none_below [] = refl
 none_below (s ∷ p) = none_below p
 
 -- what the trie of sections tells of a path
-pub made_in_trie : (sections : List Section) (t : Trie) → Stands sections t → (s : Step) (p : Path)
-    → grammar.is_made (located sections) (s ∷ p) ≡ stands_made (standing (trie_at (s ∷ p) t))
-made_in_trie sections t (inl put) s p =
+pub made_in_trie : (sections : List Section) (t : Trie) → Stands sections t → (p : Path) → is_root p ≡ false
+    → grammar.is_made (located sections) p ≡ stands_made (standing (trie_at p t))
+made_in_trie sections t stands [] below = absurd (false≢true (sym below))
+made_in_trie sections t (inl put) (s ∷ p) below =
     let st = marks_put sections t put in
-    made_is sections st.0 st.1 s p
-    ∙ ap stands_made (sym (standing_of st.0 (s ∷ p)))
-    ∙ ap (λ t. stands_made (standing (descend (s ∷ p) t))) (sym st.2)
-    ∙ ap (λ t. stands_made (standing t)) (sym (same_way (s ∷ p) t))
-made_in_trie sections t (inr none) s p =
-    ap (λ ss. grammar.is_made (located ss) (s ∷ p)) none.0
-    ∙ sym (ap (λ t. stands_made (standing (trie_at (s ∷ p) t))) none.1
-    ∙ ap (λ t. stands_made (standing t)) (none_below p))
+    rw (same_way (s ∷ p) t, st.2, standing_of st.0 (s ∷ p)) (made_is sections st.0 st.1 s p)
+made_in_trie sections t (inr none) (s ∷ p) below = rw (none.0, none.1, none_below p) refl
 
 pub array_in_trie : (sections : List Section) (t : Trie) → Stands sections t → (p : Path)
     → grammar.is_array (located sections) p ≡ stands_array (standing (trie_at p t))
 array_in_trie sections t (inl put) p =
-    let st = marks_put sections t put in
-    array_is sections st.0 st.1 p
-    ∙ ap stands_array (sym (standing_of st.0 p))
-    ∙ ap (λ t. stands_array (standing (descend p t))) (sym st.2)
-    ∙ ap (λ t. stands_array (standing t)) (sym (same_way p t))
-array_in_trie sections t (inr none) p =
-    ap (λ ss. grammar.is_array (located ss) p) none.0
-    ∙ sym (ap (λ t. stands_array (standing (trie_at p t))) none.1 ∙ go p)
+    let st = marks_put sections t put in rw (same_way p t, st.2, standing_of st.0 p) (array_is sections st.0 st.1 p)
+array_in_trie sections t (inr none) p = rw (none.0, none.1) (sym (go p))
   where
     go : (p : Path) → stands_array (standing (trie_at p only_root)) ≡ false
     go [] = refl
-    go (s ∷ p) = ap (λ t. stands_array (standing t)) (none_below p)
+    go (s ∷ p) = rw (none_below p) refl
 
 abbrev pub made_name : Bool → List ℕ
 made_name b = if b then codes "array" else codes "table"
@@ -86,16 +74,10 @@ pub record IsMade (count : ℕ) (spot : Spot) : Type 0 where
 item_made : (count : ℕ) (b : Bor Item) (x : Item-F Item Child Table) (o : Option Standing) → out-Item b.now ≡ x
     → item_standing x o → standing (item_trie b.now) ≡ o → is_wrapper x ≡ false → stands_made o ≡ true
     → IsMade count (spots.Item b)
-item_made count b (Item-F.Tables tables) o is stands same own made = record {
-  made = ap holds_tables is;
-  name = ap item_name is ∙ sym (ap (λ o. made_name (stands_array o)) same ∙ ap made_name stands);
-  slice = ap holds_string is;
-}
-item_made count b (Item-F.Sections tables) o is stands same own made = record {
-  made = ap holds_tables is;
-  name = ap item_name is ∙ sym (ap (λ o. made_name (stands_array o)) same ∙ ap made_name stands);
-  slice = ap holds_string is;
-}
+item_made count b (Item-F.Tables tables) o is stands same own made =
+    record { made = rw is refl; name = rw (is, same, stands) refl; slice = rw is refl }
+item_made count b (Item-F.Sections tables) o is stands same own made =
+    record { made = rw is refl; name = rw (is, same, stands) refl; slice = rw is refl }
 item_made count b (Item-F.Table t) o is stands same own made = cc
 item_made count b (Item-F.Section z) o is stands same own made = cc
 item_made count b x o is stands same own made = absurd (false≢true (sym (ap stands_made stands) ∙ made))
@@ -105,13 +87,8 @@ table_made : (count : ℕ) (b : HeaderTable)
     → IsMade count (spots.Table b)
 table_made count b made =
     let stands = ap standing (table_entries_trie (table_of b)) in
-    let here : spot_is_made count (spots.Table b) ≡ true =
-    sym (ap (λ o. (count == 0) || stands_made o) stands) ∙ made in
-    record {
-      made = here;
-      name = rw here (sym (ap (λ o. made_name (stands_array o)) stands));
-      slice = refl;
-    }
+    let here : spot_is_made count (spots.Table b) ≡ true = rw stands at made in
+    record { made = here; name = rw (here, stands) refl; slice = refl }
 
 -- what stands as made, and the root
 pub spot_made : (count : ℕ) (spot : Spot) → wraps_table spot ≡ false → stands_made (standing (spot_trie spot)) ≡ true
@@ -134,16 +111,14 @@ root_made count (spots.Item b) t own none same =
     absurd (not_table (out-Item b.now) (standing (item_trie b.now)) (standing_here b.now) own
     (out-Table t).passed (out-Table t).named (out-Table t).dotted
     (ap standing same ∙ ap standing (table_entries_trie t)))
-root_made count (spots.Plain b) t own none same = absurd (no_value (ap standing same ∙ ap standing (table_entries_trie t)))
-  where
-    no_value : {p n d : Bool} → Some value ≡ Some (table p n d) → ⊥
-    no_value e = absurd (cc)
+root_made count (spots.Plain b) t own none same =
+    let bad = ap standing same ∙ ap standing (table_entries_trie t) in absurd (cc)
 
 -- a node that stands at the root of a tree, and where the trie of the tree has what headers made
 module _ (tree : Tree) (node : Node) (p : Path) (stands : StandsAt tree p node) where
   pub root_at : p ≡ [] → IsMade node.count node.spot × (spot_trie node.spot ≡ trie_at p (tree_trie tree))
   root_at is =
-      let here : trie_at p (tree_trie tree) ≡ table_trie tree.root = ap (λ p. trie_at p (tree_trie tree)) is in
+      let here : trie_at p (tree_trie tree) ≡ table_trie tree.root = rw is refl in
       let table : tells_table (table_trie tree.root) ≡ true = ap tells_table (table_entries_trie tree.root) in
       elim stands.there [
         | inl none ↦ absurd (false≢true (sym (ap tells_table (sym here ∙ none)) ∙ table))
@@ -154,8 +129,8 @@ module _ (tree : Tree) (node : Node) (p : Path) (stands : StandsAt tree p node) 
   pub table_at : stands_made (standing (trie_at p (tree_trie tree))) ≡ true
       → IsMade node.count node.spot × (spot_trie node.spot ≡ trie_at p (tree_trie tree))
   table_at made = elim stands.there [
-    | inl none ↦ absurd (false≢true (sym (ap (λ t. stands_made (standing t)) none) ∙ made))
-    | inr there ↦ (spot_made node.count node.spot there.1 (ap (λ t. stands_made (standing t)) there.0 ∙ made), there.0)
+    | inl none ↦ absurd (false≢true (rw none at made))
+    | inr there ↦ (spot_made node.count node.spot there.1 (rw (there.0) made), there.0)
   ]
 
 -- a node that headers made
@@ -168,7 +143,7 @@ module _ (sections : List Section) (node : Node) where
   is_told p is made =
       let there = at p is.stands made in (
         there.0,
-        ap (λ t. stands_array (standing t)) there.1 ∙ sym (array_in_trie sections whole is.resolved.stands p),
+        rw (there.1) (sym (array_in_trie sections whole is.resolved.stands p)),
       )
     where
       whole : Trie
@@ -179,7 +154,7 @@ module _ (sections : List Section) (node : Node) where
       at [] stands made = root_at node.tree.now node [] stands refl
       at (s ∷ p) stands made =
           table_at node.tree.now node (s ∷ p) stands
-          (sym (made_in_trie sections whole is.resolved.stands s p) ∙ made)
+          (sym (made_in_trie sections whole is.resolved.stands (s ∷ p) refl) ∙ made)
 
 last_in : (sections : List Section) → last_of (map head sections) ≡ grammar.last_at sections
 last_in [] = refl

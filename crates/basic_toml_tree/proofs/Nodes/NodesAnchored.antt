@@ -1,9 +1,9 @@
 -- What a node is found by again is an anchor of what is at its path.
-use Rattle.std.proofs.Common.{◌≡◌, ◌==◌, ℕ, Bool, true, false, List, [], ◌∷◌, Option, Some, None, length}
-use Rattle.std.proofs.Common.{refl, ap, sym, ◌∙◌, subst}
-use Rattle.std.specs.Prelude.{◌||◌, if◌then◌else◌, IfSome, IsSomeAnd}
+use Rattle.std.proofs.Common.{◌≡◌, ◌==◌, ℕ, true, false, List, [], ◌∷◌, Option, Some, None, length}
+use Rattle.std.proofs.Common.{refl, ap, sym, ◌∙◌, subst, inl, inr}
+use Rattle.std.specs.Prelude.{IsSomeAnd}
 use Rattle.std.specs.Borrow.{Bor}
-use Rattle.std.proofs.lemmas.Bool.{false≢true}
+use Rattle.std.proofs.lemmas.Bool.{false≢true, cases_Bool}
 use Rattle.basic_toml_grammar.specs.Sections.{Section}
 use Rattle.basic_toml_grammar.specs.Steps.{Path, keys_of}
 use Rattle.basic_toml_grammar.specs.IndexedPath.{located}
@@ -26,10 +26,10 @@ use Rattle.basic_toml_tree.specs.declared.spot.Spot.{Spot}
 use Rattle.basic_toml_tree.specs.declared.spot.Spot.TheVariants as spots
 use Rattle.basic_toml_tree.specs.HeaderTables.{table_of}
 use Rattle.basic_toml_tree.specs.Origin.{spot_is_made, spot_section, spot_anchor, anchor_of, item_anchor, item_section}
-use Rattle.basic_toml_tree.specs.Origin.{holds_tables, table_is_made, start_of, is_made, last_at}
+use Rattle.basic_toml_tree.specs.Origin.{holds_tables, table_is_made, start_of, is_made}
 use Rattle.basic_toml_tree.specs.Stands.{IsNodeAt, is_root, spot_trie, tree_origins}
 use Rattle.basic_toml_tree.proofs.Foretold.NodesForetold.{made_foretold, start_foretold}
-use Rattle.basic_toml_tree.proofs.Nodes.KeysTold.{HasHeader, section_leads}
+use Rattle.basic_toml_tree.proofs.Nodes.KeysTold.{HasHeader, marked_at, section_leads}
 use Rattle.basic_toml_tree.proofs.Nodes.MadeNodes.{is_told}
 
 no_steps : (p : Path) → is_root p ≡ true → p ≡ []
@@ -50,18 +50,14 @@ module _ (sections : List Section) (p : Path) (node : Node) (is : IsNodeAt secti
 
   has_header : grammar.is_made (located sections) p ≡ true
       → IsSomeAnd (tree_origins node.tree.now p) (HasHeader (located sections) p)
-  has_header = go p (sym is.stands.root ∙ below)
-    where
-      go : (p : Path) → is_root p ≡ false → grammar.is_made (located sections) p ≡ true
-          → IsSomeAnd (tree_origins node.tree.now p) (HasHeader (located sections) p)
-      go [] root made = absurd (false≢true (sym root))
-      go (s ∷ p) root made = is.resolved.marks s p made
+  has_header =
+      marked_at (located sections) (tree_origins node.tree.now) is.resolved.marks p (sym is.stands.root ∙ below)
 
   leads : (n : ℕ) → spot_section node.spot ≡ Some n → is_made node ≡ true → LeadsTo (located sections) n p
   leads n section made =
-      section_leads (located sections) p node.spot n section (tree_origins node.tree.now p) (has_header (sym made_as ∙ made))
-      (subst (λ q. IfSome (tree_origins node.tree.now q) (λ o. IfSome (spot_section node.spot) (λ n. o.section ≡ n)))
-      (append_none p) is.stands.comes.marked)
+      section_leads (located sections) p node.spot n section (tree_origins node.tree.now p)
+      (has_header (sym made_as ∙ made))
+      (rw (append_none p) at is.stands.comes.marked)
 
   keys : node.count ≡ length (keys_of p)
   keys = is.stands.count sections is.resolved
@@ -73,9 +69,7 @@ module _ (sections : List Section) (p : Path) (node : Node) (is : IsNodeAt secti
   unfolding start_of
   of_value apart = (
     sym made_as ∙ apart,
-    subst (λ start. IsSomeAnd (grammar.node_at sections p) (λ found. found.start ≡ start))
-        (ap (λ b. if b then last_at node.tree.now else Some node.start) apart)
-        (turned (grammar.node_at sections p) (start_foretold (start_of node) node refl sections p is)),
+    rw apart at (turned (grammar.node_at sections p) (start_foretold (start_of node) node refl sections p is)),
     keys,
   )
     where
@@ -86,22 +80,16 @@ module _ (sections : List Section) (p : Path) (node : Node) (is : IsNodeAt secti
 
   of_table : (b : HeaderTable) → node.spot ≡ spots.Table b
       → IsAnchorOf sections p (spot_anchor (spots.Table b) node.start node.count)
-  of_table b at = go (table_is_made (table_of b)) refl
-    where
-      made : is_made node ≡ table_is_made (table_of b)
-      made = ap (spot_is_made node.count) at ∙ ap (λ c. c || table_is_made (table_of b)) below
-
-      go : (m : Bool) → table_is_made (table_of b) ≡ m
-          → IsAnchorOf sections p
-          (if m then anchors.Table (out-Table (table_of b)).section node.count else anchors.Value node.start node.count)
-      go true e = (
-        leads (out-Table (table_of b)).section
-            (ap spot_section at ∙ ap (λ m. if m then Some (out-Table (table_of b)).section else None) e) (made ∙ e),
-        sym (arrays (made ∙ e)) ∙ ap (λ spot. stands_array (standing (spot_trie spot))) at
-            ∙ ap (λ t. stands_array (standing t)) (table_entries_trie (table_of b)),
-        keys,
-      )
-      go false e = of_value (made ∙ e)
+  of_table b at =
+      let made : is_made node ≡ table_is_made (table_of b) = rw (at, below) refl in
+      elim (cases_Bool (table_is_made (table_of b))) [
+        | inl e ↦ rw e (
+          leads (out-Table (table_of b)).section (rw (at, e) refl) (made ∙ e),
+          rw (← (arrays (made ∙ e)), at, table_entries_trie (table_of b)) refl,
+          keys,
+        )
+        | inr e ↦ rw e (of_value (made ∙ e))
+      ]
 
   of_item : (b : Bor Item) (x : Item-F Item Child Table) → node.spot ≡ spots.Item b → out-Item b.now ≡ x
       → IsAnchorOf sections p (item_anchor x node.start node.count)
@@ -110,22 +98,22 @@ module _ (sections : List Section) (p : Path) (node : Node) (is : IsNodeAt secti
       made : (x : Item-F Item Child Table) → out-Item b.now ≡ x → is_made node ≡ holds_tables x
       made x e = ap (spot_is_made node.count) at ∙ ap holds_tables e
 
-      array : (x : Item-F Item Child Table) (n : ℕ) → out-Item b.now ≡ x → holds_tables x ≡ true → item_section x ≡ Some n
-          → stands_array (standing (item_trie b.now)) ≡ true → IsAnchorOf sections p (anchors.Array n node.count)
+      array : (x : Item-F Item Child Table) (n : ℕ) → out-Item b.now ≡ x → holds_tables x ≡ true
+          → item_section x ≡ Some n → (item_standing x (standing (item_trie b.now))
+          → stands_array (standing (item_trie b.now)) ≡ true) → IsAnchorOf sections p (anchors.Array n node.count)
       array x n e holds section stands = (
         leads n (ap spot_section at ∙ ap item_section e ∙ section) (made x e ∙ holds),
-        sym (arrays (made x e ∙ holds)) ∙ ap (λ spot. stands_array (standing (spot_trie spot))) at ∙ stands,
+        rw (← (arrays (made x e ∙ holds)), at)
+            (stands (subst (λ x. item_standing x (standing (item_trie b.now))) e (standing_here b.now))),
         keys,
       )
 
       go : (x : Item-F Item Child Table) → out-Item b.now ≡ x
           → IsAnchorOf sections p (item_anchor x node.start node.count)
       go (Item-F.Tables tables) e =
-          array (Item-F.Tables tables) (out-Table tables.value.1).section e refl refl
-          (subst (λ x. item_standing x (standing (item_trie b.now))) e (standing_here b.now))
+          array (Item-F.Tables tables) (out-Table tables.value.1).section e refl refl (λ stands. stands)
       go (Item-F.Sections tables) e =
-          array (Item-F.Sections tables) tables.value.1.0 e refl refl
-          (subst (λ x. item_standing x (standing (item_trie b.now))) e (standing_here b.now))
+          array (Item-F.Sections tables) tables.value.1.0 e refl refl (λ stands. stands)
       go x e = of_value (made x e)
 
   by_spot : (spot : Spot) → node.spot ≡ spot → IsAnchorOf sections p (spot_anchor spot node.start node.count)
@@ -136,9 +124,7 @@ module _ (sections : List Section) (p : Path) (node : Node) (is : IsNodeAt secti
 pub anchored : (anchor : Anchor) (node : Node) → anchor ≡ anchor_of node → (sections : List Section) (p : Path)
     → IsNodeAt sections p node → IsAnchorOf sections p anchor
 unfolding anchor_of
-anchored anchor node same sections p is = subst (IsAnchorOf sections p) (sym same) (go (node.count == 0) refl)
-  where
-    go : (b : Bool) → (node.count == 0) ≡ b
-        → IsAnchorOf sections p (if b then anchors.Root else spot_anchor node.spot node.start node.count)
-    go true e = no_steps p (sym is.stands.root ∙ e)
-    go false e = by_spot sections p node is e node.spot refl
+anchored anchor node same sections p is = rw same (elim (cases_Bool (node.count == 0)) [
+  | inl e ↦ rw e (no_steps p (sym is.stands.root ∙ e))
+  | inr e ↦ rw e (by_spot sections p node is e node.spot refl)
+])

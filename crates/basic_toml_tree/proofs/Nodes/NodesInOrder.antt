@@ -1,11 +1,12 @@
 -- The elements of an array and the entries of a table, one after another.
 use Rattle.std.proofs.Common.{◌≡◌, ℕ, zero, suc, ◌+◌, ◌<◌, List, [], ◌∷◌, ◌++◌, length, drop, map, Some, refl, ap}
-use Rattle.std.proofs.Common.{◌∙◌, sym, arith, get_or, IsTrue, Vec, Box, Global, option_map}
+use Rattle.std.proofs.Common.{◌∙◌, sym, get_or, IsTrue, Vec, Box, Global, option_map}
 use Rattle.std.specs.Prelude.{slice_get}
-use Rattle.std.proofs.lemmas.List.{map-append}
+use Rattle.std.proofs.lemmas.List.{drop_more, map-append}
+use Rattle.std.proofs.lemmas.Simd.{map-map}
 use Rattle.std.specs.Iterator.{MakesProgress, item_count}
 use Rattle.std.specs.declared.iter.Iterator.{can_next-default}
-use Rattle.std.proofs.lemmas.Option.{slice_get-map, slice_get_read}
+use Rattle.std.proofs.lemmas.Option.{get_or_from_slice_get, slice_get-map, slice_get_read, slice_get_within}
 use Rattle.basic_toml_value.specs.Data.{Data, no_members, items_of, members_of}
 use Rattle.basic_toml_index.specs.Keys.{are_distinct}
 use Rattle.basic_toml_value.specs.Pairs.{keys_of}
@@ -28,14 +29,10 @@ paired-members (p ∷ ps) = ap (λ l. p ∷ l) (paired-members ps)
 
 module _ {A : Type 0} where
   -- what is read at a position comes first after those before it
-  pub drop_first : (xs : List A) (i : ℕ) (x : A) → slice_get xs i ≡ Some x → drop i xs ≡ x ∷ drop (suc i) xs
-  drop_first [] i x read = absurd (cc)
-  drop_first (y ∷ ys) zero x read = let same : y ≡ x = cc in ap (λ z. z ∷ ys) same
-  drop_first (y ∷ ys) (suc i) x read = drop_first ys i x read
-
   pub drop_next : (xs : List A) (i : ℕ) (x : A) → slice_get xs i ≡ Some x → drop i xs ≡ x ∷ drop (i + 1) xs
-  drop_next xs i x read = let next : suc i ≡ i + 1 = omega arith in
-      drop_first xs i x read ∙ ap (λ j. x ∷ drop j xs) next
+  drop_next xs i x read =
+      drop_more xs i x (slice_get_within xs i x read)
+      ∙ ap (λ y. y ∷ drop (i + 1) xs) (get_or_from_slice_get xs i x x read)
 
   pub front_read : (xs ys : List A) (i : ℕ) (x : A) → slice_get xs i ≡ Some x → slice_get (xs ++ ys) i ≡ Some x
   front_read [] ys i x read = absurd (cc)
@@ -59,11 +56,9 @@ pub pair_read : {A D : Type 0} (f : A → D) (ps : List (List ℕ × A)) (i : �
     → slice_get (map (λ p. p.0) ps) i ≡ Some k → slice_get (map (λ p. p.1) ps) i ≡ Some v
     → slice_get {X = List ℕ × D} (map (λ p. (p.0, f p.1)) ps) i ≡ Some (k, f v)
 pair_read f [] i k v key value = absurd (cc)
-pair_read {A = A} {D = D} f (p ∷ ps) zero k v key value =
+pair_read f (p ∷ ps) zero k v key value =
     let a : p.0 ≡ k = cc in
-    let b : p.1 ≡ v = cc in
-    let pair : List ℕ → A → List ℕ × D = λ k v. (k, f v) in
-    ap (λ k. Some (pair k p.1)) a ∙ ap (λ v. Some (pair k v)) b
+    let b : p.1 ≡ v = cc in rw (a, b) refl
 pair_read f (p ∷ ps) (suc i) k v key value = pair_read f ps i k v key value
 
 pub array_elements : (children : Vec Child Global)
@@ -73,7 +68,8 @@ array_elements children = ap elements_in (children_data children) ∙ listed-ite
 pub tables_elements : (tables : Box (Vec Table Global × Table) Global)
     → elements_in (data_of (Tables tables)) ≡ map table_data tables.value.0.items ++ table_data tables.value.1 ∷ []
 tables_elements tables =
-    ap elements_in (tables_data tables) ∙ listed-items (map table_data tables.value.0.items ++ table_data tables.value.1 ∷ [])
+    ap elements_in (tables_data tables)
+    ∙ listed-items (map table_data tables.value.0.items ++ table_data tables.value.1 ∷ [])
 
 pub sections_elements : (tables : Box SectionTables Global)
     → elements_in (data_of (Sections tables)) ≡ map (λ t. section_data t.1) (tables_in tables.value)
@@ -87,15 +83,10 @@ pub table_entries : (t : Table)
 table_entries t =
     ap entries_in (table_members t) ∙ paired-members (map (λ p. (p.0, child_data p.1)) (out-Table t).entries)
 
-keys-mapped : (ps : List (List ℕ × Child)) → keys_of {V = Data} (map (λ p. (p.0, child_data p.1)) ps) ≡ keys_of ps
-keys-mapped [] = refl
-keys-mapped (p ∷ ps) = ap (λ ks. p.0 ∷ ks) (keys-mapped ps)
-
 -- the keys of a table differ, as those of its entries do
 pub distinct_keys : (d : Data) (t : Table) → d ≡ table_data t → IsTrue (are_distinct (keys_of (out-Table t).entries))
     → IsTrue (are_distinct (keys_of (entries_in d)))
-distinct_keys d t same distinct =
-    rw (same, table_entries t, keys-mapped (out-Table t).entries) distinct
+distinct_keys d t same distinct = rw (same, table_entries t, map-map) distinct
 
 pub no_keys : (d : Data) → d ≡ Data.table no_members → IsTrue (are_distinct (keys_of (entries_in d)))
 no_keys d same = rw same refl

@@ -1,13 +1,13 @@
 -- A node below another one stands at the path of that one and one more step.
 use Rattle.std.proofs.Common.{◌≡◌, ◌⊎◌, inl, inr, ◌==◌, ℕ, Bool, true, false, List, [], ◌∷◌}
-use Rattle.std.proofs.Common.{◌++◌, Some, None, refl, ap, sym, ◌∙◌, subst, map, rules, Vec, Box, Global, IsTrue}
-use Rattle.std.specs.Prelude.{slice_get, Option}
+use Rattle.std.proofs.Common.{◌++◌, Some, None, refl, ap, sym, ◌∙◌, rules, Vec, Global, IsTrue}
+use Rattle.std.specs.Prelude.{slice_get}
 use Rattle.std.specs.Option.{option_and_then}
 use Rattle.std.specs.Str.{bytes_eq}
 use Rattle.std.proofs.lemmas.Slice.Eq.{bytes_eq-Decides}
 use Rattle.std.specs.Borrow.{Bor}
 use Rattle.std.proofs.lemmas.Bool.{cases_Bool}
-use Rattle.basic_toml_value.specs.Data.{Data, items_of}
+use Rattle.basic_toml_value.specs.Data.{Data}
 use Rattle.basic_toml_index.specs.Keys.{are_distinct}
 use Rattle.basic_toml_value.specs.Pairs.{keys_of, value_at}
 use Rattle.basic_toml_index.proofs.DistinctKeys.{bytes_eq-same, bytes_eq_other, is_among-before}
@@ -20,10 +20,9 @@ use Rattle.basic_toml_read.specs.declared.section.Element.{Element}
 use Rattle.basic_toml_read.specs.SectionView.{raw_of}
 use Rattle.basic_toml_read.proofs.ViewsSeen.{array_of}
 use Rattle.basic_toml_plain.specs.Plain.{plain_array}
-use Rattle.basic_toml_plain.specs.Tries.{by_keys, leaf, tree_data}
+use Rattle.basic_toml_plain.specs.Tries.{by_keys, leaf}
 use Rattle.basic_toml_grow.specs.declared.item.Item.{Item, out-Item, the_lemmas, Array, Plain}
 use Rattle.basic_toml_grow.specs.declared.item.Item.TheOpen.{Item-F}
-use Rattle.basic_toml_grow.specs.declared.item.Item.TheViews.{roll-Item}
 use Rattle.basic_toml_grow.specs.declared.item.Child.{Child}
 use Rattle.basic_toml_grow.specs.declared.item.Table.{Table, out-Table}
 use Rattle.basic_toml_tree.specs.declared.tree.Tree.{Tree}
@@ -32,14 +31,13 @@ use Rattle.basic_toml_tree.specs.declared.plain_value.PlainValue.{PlainValue}
 use Rattle.basic_toml_tree.specs.declared.spot.Spot.{Spot}
 use Rattle.basic_toml_tree.specs.declared.spot.Spot.TheVariants as spots
 use Rattle.basic_toml_value.specs.Growth.{values_of}
-use Rattle.basic_toml_grow.specs.Item.{item_trie, child_trie, table_trie}
+use Rattle.basic_toml_grow.specs.Item.{item_trie, child_trie}
 use Rattle.basic_toml_tree.specs.Stands.{trie_at, tree_trie, spot_trie, wraps_table, HoldsTable, IsBelow, is_root}
-use Rattle.basic_toml_tree.specs.Keys.{CountsKeys, KeysLead, RowsLead}
-use Rattle.basic_toml_tree.proofs.Nodes.KeysLead.{count_beside, keys_beside, rows_beside}
+use Rattle.basic_toml_tree.proofs.Nodes.KeysLead.{KeepsKeys, keys_beside}
 use Rattle.basic_toml_tree.specs.Stands.{StandsAt, StandsOn, IsBeside, is_wrapper, ItemHolds, ComesFrom, node_origins}
 use Rattle.basic_toml_tree.specs.Stands.{StartIsKept, tree_origins, IsPlainElement, spot_origins}
-use Rattle.basic_toml_tree.specs.Data.{child_data, table_data, data_of}
-use Rattle.basic_toml_tree.specs.Nodes.{node_data, data_at, elements_in, spot_data}
+use Rattle.basic_toml_tree.specs.Data.{child_data, table_data}
+use Rattle.basic_toml_tree.specs.Nodes.{node_data, data_at, elements_in}
 use Rattle.basic_toml_tree.specs.HeaderTables.{table_of}
 use Rattle.basic_toml_tree.specs.Outer.{around}
 use Rattle.basic_toml_tree.specs.Paths.{data_by, data_along}
@@ -50,7 +48,7 @@ use Rattle.basic_toml_grow.proofs.ItemTries.{table_entries_trie}
 use Rattle.basic_toml_grow.proofs.PlainArrays.{plain_trie}
 use Rattle.basic_toml_value.proofs.KeysChanged.{first_at}
 use Rattle.basic_toml_grow.proofs.ItemsStand.{shape}
-use Rattle.basic_toml_tree.proofs.Nodes.NodesCome.{comes_on, key_comes, key_origins, literal_comes}
+use Rattle.basic_toml_tree.proofs.Nodes.NodesCome.{comes_alike, comes_on, key_origins, literal_comes}
 use Rattle.basic_toml_tree.proofs.Nodes.Lines.{around_key, around_number}
 use Rattle.basic_toml_tree.proofs.Nodes.NodesInOrder.{array_elements, read_mapped}
 use Rattle.basic_toml_grow.proofs.KeysInATrie.{tries_of}
@@ -61,19 +59,12 @@ at_more (r ∷ p) s t = at_more p s (below r t)
 
 -- the data one step on from a path
 data_more : (p : Path) (s : Step) (d : Data) → data_along (p ++ s ∷ []) d ≡ option_and_then (data_by s) (data_along p d)
-data_more [] s d = go (data_by s d)
-  where
-    go : (o : Option Data) → option_and_then (data_along []) o ≡ o
-    go None = refl
-    go (Some x) = refl
-data_more (r ∷ p) s d = go (λ x. data_more p s x) (data_by r d)
-  where
-    go : ((x : Data) → data_along (p ++ s ∷ []) x ≡ option_and_then (data_by s) (data_along p x)) → (o : Option Data)
-        → option_and_then (data_along (p ++ s ∷ [])) o ≡ option_and_then (data_by s) (option_and_then (data_along p) o)
-    go more None = refl
-    go more (Some x) = more x
+data_more [] s d = elim (data_by s d) as (λ o. option_and_then (data_along []) o ≡ o) [ | None ↦ refl | Some x ↦ refl ]
+data_more (r ∷ p) s d =
+    elim (data_by r d) as (λ o. option_and_then (data_along (p ++ s ∷ [])) o
+    ≡ option_and_then (data_by s) (option_and_then (data_along p) o)) [ | None ↦ refl | Some x ↦ data_more p s x ]
 
-no_root : (p : Path) (s : Step) → is_root (p ++ s ∷ []) ≡ false
+pub no_root : (p : Path) (s : Step) → is_root (p ++ s ∷ []) ≡ false
 no_root [] s = refl
 no_root (r ∷ p) s = refl
 
@@ -89,17 +80,6 @@ find_key (p ∷ ps) k c found = elim (cases_Bool (bytes_eq k p.0)) [
   | inr e ↦ rw (bytes_eq_other p.0 k e) (find_key ps k c (rw e at found))
 ]
 
-table_below : (t : Table) (k : List ℕ) (c : Child) → value_at (out-Table t).entries k ≡ Some c
-    → below (key k) (table_trie t) ≡ child_trie c
-table_below t k c found = ap (below (key k)) (table_entries_trie t) ∙ find_key (out-Table t).entries k c found
-
-array_trie : (children : Vec Child Global) → (d : Data) × (item_trie (Array children) ≡ leaf d)
-array_trie children =
-    (Data.array (items_of (map tree_data (map child_trie children.items))), search (rules, the_lemmas))
-
-inline_trie : (t : Box Table Global) → (d : Data) × (item_trie (roll-Item (Item-F.Inline t)) ≡ leaf d)
-inline_trie t = (tree_data (table_trie t.value), search (rules, the_lemmas))
-
 abbrev NothingOr : Step → Trie → Trie → Type 0
 NothingOr s from t = (below s from ≡ nothing) ⊎ (t ≡ below s from)
 
@@ -107,8 +87,7 @@ NothingOr s from t = (below s from ≡ nothing) ⊎ (t ≡ below s from)
 item_below : (i : Item) (x : Item-F Item Child Table) (t : Table) (k : List ℕ) (u : Trie) → out-Item i ≡ x
     → is_wrapper x ≡ false → ItemHolds x t → NothingOr (key k) (item_trie i) u
 item_below i (Item-F.Inline table) t k u is own holds =
-    let leaf = inline_trie table in
-    inl (ap (λ i. below (key k) (item_trie i)) (shape i (Item-F.Inline table) is) ∙ ap (below (key k)) leaf.1)
+    inl (rw (shape i (Item-F.Inline table) is) (search (rules, the_lemmas)))
 item_below i (Item-F.Table table) t k u is own holds = cc
 item_below i x t k u is own holds = absurd holds
 
@@ -116,19 +95,21 @@ spot_below : (spot : Spot) (t : Table) (k : List ℕ) (c : Child) → HoldsTable
     → value_at (out-Table t).entries k ≡ Some c → NothingOr (key k) (spot_trie spot) (child_trie c)
 spot_below (spots.Table table) t k c holds own found =
     let same : t ≡ table_of table = holds in
-    inr (sym (ap (λ t. below (key k) (table_trie t)) (sym same) ∙ table_below t k c found))
+    inr (rw (← same, table_entries_trie t) (sym (find_key (out-Table t).entries k c found)))
 spot_below (spots.Item item) t k c holds own found =
     item_below item.now (out-Item item.now) t k (child_trie c) refl own holds
 spot_below (spots.Plain plain) t k c holds own found = absurd holds
 
--- A node is that of a path of a tree, and of a step on from another node, if the trie tells of anything there.
+-- A node is that of a trie, and so of a path of a tree and of a step on from another node, if the trie tells of
+-- anything there.
+abbrev IsOf : Trie → Node → Type 0
+IsOf t node = (t ≡ nothing) ⊎ ((spot_trie node.spot ≡ t) × (wraps_table node.spot ≡ false))
+
 abbrev pub Further : Tree → Path → Node → Type 0
-Further tree p node = (trie_at p (tree_trie tree) ≡ nothing)
-    ⊎ ((spot_trie node.spot ≡ trie_at p (tree_trie tree)) × (wraps_table node.spot ≡ false))
+Further tree p node = IsOf (trie_at p (tree_trie tree)) node
 
 abbrev StepsOn : Node → Step → Node → Type 0
-StepsOn from s node = (below s (spot_trie from.spot) ≡ nothing)
-    ⊎ ((spot_trie node.spot ≡ below s (spot_trie from.spot)) × (wraps_table node.spot ≡ false))
+StepsOn from s node = IsOf (below s (spot_trie from.spot)) node
 
 -- one step on from a node
 module _ (from node : Node) (s : Step) (same : node.tree ≡ from.tree)
@@ -139,24 +120,21 @@ module _ (from node : Node) (s : Step) (same : node.tree ≡ from.tree)
   further : Further tree (p ++ s ∷ []) node
   further = elim stands.there [
     | inl none ↦ inl (at_more p s (tree_trie tree) ∙ ap (below s) none)
-    | inr there ↦ elim (more there.1) [
-      | inl none ↦ inl (at_more p s (tree_trie tree) ∙ ap (below s) (sym there.0) ∙ none)
-      | inr on ↦ inr (on.0 ∙ ap (below s) there.0 ∙ sym (at_more p s (tree_trie tree)), on.1)
-    ]
+    | inr there ↦ rw (at_more p s (tree_trie tree), ← (there.0)) (more there.1)
   ]
 
   pub stands_on : (node.count == 0) ≡ false → StartIsKept tree (around (p ++ s ∷ [])) node.outer
-      → CountsKeys tree (p ++ s ∷ []) node → KeysLead tree (p ++ s ∷ []) node → RowsLead tree (p ++ s ∷ []) node → StandsAt tree (p ++ s ∷ []) node
-  stands_on counted kept count keys rows = record {
+      → KeepsKeys tree (p ++ s ∷ []) node → StandsAt tree (p ++ s ∷ []) node
+  stands_on counted kept keys = record {
     within = ap (λ t. t.now) same ∙ stands.within;
     holds = data_more p s (table_data tree.root) ∙ ap (option_and_then (data_by s)) stands.holds ∙ read;
     root = counted ∙ sym (no_root p s);
     there = further;
     comes = comes_on from node s tree p stands.comes comes;
     outer = kept;
-    count = count;
-    keys = keys;
-    rows = rows;
+    count = keys.0;
+    keys = keys.1;
+    rows = keys.2;
   }
 
 -- what a node keeps of where this one begins
@@ -166,9 +144,7 @@ KeepsBelow from node = (tree : Tree) (p : Path) → StandsAt tree p from → Sta
 -- what is kept of the keys, one step on from a node
 abbrev pub KeysOn : Node → List ℕ → Child → Node → Type 0
 KeysOn from k c node = (tree : Tree) (p : Path) → StandsAt tree p from → Further tree (p ++ key k ∷ []) node
-    → tree_origins tree (p ++ key k ∷ []) ≡ child_origins c []
-    → CountsKeys tree (p ++ key k ∷ []) node × KeysLead tree (p ++ key k ∷ []) node
-    × RowsLead tree (p ++ key k ∷ []) node
+    → tree_origins tree (p ++ key k ∷ []) ≡ child_origins c [] → KeepsKeys tree (p ++ key k ∷ []) node
 
 pub key_stands : (from node : Node) (t : Table) (k : List ℕ) (c : Child) → HoldsTable from.spot t
     → value_at (out-Table t).entries k ≡ Some c → data_at (node_data from) k ≡ Some (node_data node)
@@ -178,8 +154,7 @@ key_stands from node t k c holds found read is comes keeps keys tree p stands =
     let kept = keys tree p stands (further from node (key k) is.tree read more from_there tree p stands)
     (stands.comes.parts (key k) [] ∙ key_origins from t k c holds found stands.comes.section []) in
     stands_on from node (key k) is.tree read more from_there tree p stands is.count
-    (subst (λ q. StartIsKept tree q node.outer) (sym (around_key p k)) (keeps tree p stands)) kept.0 kept.1
-    kept.2
+    (rw (around_key p k) (keeps tree p stands)) kept
   where
     more : wraps_table from.spot ≡ false → StepsOn from (key k) node
     more own = elim (spot_below from.spot t k c holds own found) [
@@ -188,19 +163,19 @@ key_stands from node t k c holds found read is comes keeps keys tree p stands =
     ]
 
     from_there : (at : ℕ) → ComesFrom (λ q. node_origins at from (key k ∷ q)) node
-    from_there at = key_comes from node t k c holds found comes at
+    from_there at = comes_alike (key_origins from t k c holds found at) comes
 
 -- the key and the value at a position of a table
 pub entry_stands : (from node : Node) (t : Table) (i : ℕ) (k : List ℕ) (c : Child) → HoldsTable from.spot t
     → IsTrue (are_distinct (keys_of (out-Table t).entries)) → slice_get (keys_of (out-Table t).entries) i ≡ Some k
-    → slice_get (values_of (out-Table t).entries) i ≡ Some c → node_data from ≡ table_data t → node_data node ≡ child_data c
-    → IsBelow from (child_trie c) node → ComesFrom (child_origins c) node → KeepsBelow from node → KeysOn from k c node
-    → StandsOn from (key k) node
+    → slice_get (values_of (out-Table t).entries) i ≡ Some c → node_data from ≡ table_data t
+    → node_data node ≡ child_data c → IsBelow from (child_trie c) node → ComesFrom (child_origins c) node
+    → KeepsBelow from node → KeysOn from k c node → StandsOn from (key k) node
 entry_stands from node t i k c holds distinct at value whole part is comes keeps keys =
     let found : value_at (out-Table t).entries k ≡ Some c =
     first_at (out-Table t).entries i k c at (is_among-before (keys_of (out-Table t).entries) i k distinct at) value in
     key_stands from node t k c holds found
-    (ap (λ d. data_at d k) whole ∙ data_at_found t k c found ∙ ap Some (sym part)) is comes keeps keys
+    (rw (whole, part) (data_at_found t k c found)) is comes keeps keys
 
 -- an array is no root
 abbrev pub tells_table : Trie → Bool
@@ -227,15 +202,8 @@ beside_stands from node here n beside array read more comes tree p stands =
     let counted : (node.count == 0) ≡ false =
     ap (λ c. c == 0) beside.count ∙ stands.root ∙ no_array_root from tree p stands array in
     stands_on from node (number n) beside.tree read more (comes counted) tree p stands counted
-    (subst (λ q. StartIsKept tree q node.outer) (sym (around_number p n))
-    (subst (λ outer. StartIsKept tree (around p) outer) (sym beside.outer) stands.outer))
-    (count_beside from node here n beside tree p stands) (keys_beside from node here n beside tree p stands)
-    (rows_beside from node here n beside tree p stands)
-
--- the trie of an item
-array_spot : (from : Node) (b : Bor Item) (i : Item) → from.spot ≡ spots.Item b → b.now ≡ i
-    → spot_trie from.spot ≡ item_trie i
-array_spot from b i at is = ap spot_trie at ∙ ap item_trie is
+    (rw (around_number p n, beside.outer) stands.outer)
+    (keys_beside from node here n beside tree p stands)
 
 plain_origins : (es : List Element) (at s : ℕ) → item_origins (Plain es) at s ≡ value_origins s at (plain_array es)
 plain_origins es at s = search (rules, the_lemmas)
@@ -255,8 +223,7 @@ pub value_stands : (from node : Node) (n : ℕ) (v : PlainValue) (es : Vec Eleme
     → slice_get (elements_in (node_data from)) n ≡ Some (node_data node) → StandsOn from (number n) node
 value_stands from node n v es at is placed read =
     let seen : raw_of v.value.now ≡ plain_array es.items = ap raw_of is ∙ array_of es in
-    element_stands from node n es.items placed (ap spot_trie at ∙ ap (λ v. leaf (finished v)) seen)
-    (λ start s. ap (λ spot. spot_origins spot start s) at ∙ ap (value_origins s start) seen) read
+    element_stands from node n es.items placed (rw (at, seen) refl) (λ start s. rw (at, seen) refl) read
 
 module _ (from node : Node) (n : ℕ) (b : Bor Item) (at : from.spot ≡ spots.Item b) where
   pub literal_stands : (children : Vec Child Global) (spot : Spot) (child : Child) → b.now ≡ Array children
@@ -264,21 +231,16 @@ module _ (from node : Node) (n : ℕ) (b : Bor Item) (at : from.spot ≡ spots.I
       → ComesFrom (child_origins child) node
       → (slice_get (elements_in (node_data from)) n ≡ Some (node_data node)) × StandsOn from (number n) node
   literal_stands children spot child is there same beside comes =
-      let d = array_trie children in
-      let here : spot_trie from.spot ≡ leaf d.0 = array_spot from b (Array children) at is ∙ d.1 in
       let read : slice_get (elements_in (node_data from)) n ≡ Some (node_data node) =
-      ap (λ spot. slice_get (elements_in (spot_data spot)) n) at ∙ ap (λ i. slice_get (elements_in (data_of i)) n) is
-      ∙ ap (λ ds. slice_get ds n) (array_elements children) ∙ read_mapped child_data children.items n child there
-      ∙ ap Some (sym same) in (
+      rw (at, is, array_elements children, same) (read_mapped child_data children.items n child there) in (
         read,
-        beside_stands from node spot n beside (ap tells_table here) read (λ own. inl (ap (below (number n)) here))
-            (λ counted s. literal_comes from node n b at children child is
-            (read_mapped child_origins children.items n child there) comes s),
+        beside_stands from node spot n beside (rw (at, is) (search (rules, the_lemmas))) read
+            (λ own. inl (rw (at, is) (search (rules, the_lemmas)))) (λ counted s. literal_comes from node n b at
+            children child is (read_mapped child_origins children.items n child there) comes s),
       )
 
   pub plain_stand : (es : List Element) → b.now ≡ Plain es → IsPlainElement from es n node
       → slice_get (elements_in (node_data from)) n ≡ Some (node_data node) → StandsOn from (number n) node
   plain_stand es is placed read =
-      element_stands from node n es placed (array_spot from b (Plain es) at is ∙ plain_trie es)
-      (λ start s. ap (λ spot. spot_origins spot start s) at ∙ ap (λ i. item_origins i start s) is ∙ plain_origins es start s)
-      read
+      element_stands from node n es placed (rw (at, is) (plain_trie es))
+      (λ start s. rw (at, is) (plain_origins es start s)) read

@@ -1,12 +1,14 @@
 -- Where rows put something at a key of a table that headers made, or below it, they are rows of one section: those of
 -- two would clash.
-use Rattle.std.proofs.Common.{◌≡◌, ◌⊎◌, inl, inr, ◌+◌, ℕ, zero, suc, Bool, true, false, List, [], ◌∷◌, ◌++◌, Option}
-use Rattle.std.proofs.Common.{Some, None, refl, ap, sym, ◌∙◌, subst, arith, slice_get, map, append_assoc}
-use Rattle.std.specs.Prelude.{◌||◌, if◌then◌else◌, IfSome, ⊤}
+use Rattle.std.proofs.Common.{◌≡◌, inl, inr, ◌+◌, ℕ, zero, suc, Bool, true, false, List, [], ◌∷◌, ◌++◌, Option}
+use Rattle.std.proofs.Common.{Some, None, refl, ap, sym, ◌∙◌, arith, slice_get, map, append_assoc}
+use Rattle.std.specs.Prelude.{◌||◌, if◌then◌else◌, IfSome}
 use Rattle.std.specs.List.{list_any, list_all}
 use Rattle.std.specs.Option.{option_or}
-use Rattle.std.proofs.lemmas.Bool.{false≢true, and_parts, or_left, or_right, or_parts, or_cases}
-use Rattle.std.proofs.lemmas.Option.{IfSome_then, MatchOption-at_some}
+use Rattle.std.proofs.lemmas.Bool.{false≢true, false_from_ne_true, and_parts, or_left, or_right, or_parts, or_cases}
+use Rattle.std.proofs.lemmas.List.Sums.{AllPass-from_list_all}
+use Rattle.std.proofs.lemmas.Map.Keys.{any_passes_from_place}
+use Rattle.std.proofs.lemmas.Option.{IfSome_then, get_or_from_slice_get, slice_get_within}
 use Rattle.basic_toml_grammar.specs.Sections.{KeyTexts, Section}
 use Rattle.basic_toml_grammar.specs.Steps.{Step, key, number, Path, step_eq, path_eq, begins, steps_of}
 use Rattle.basic_toml_grammar.specs.IndexedPath.{Located, located}
@@ -19,25 +21,22 @@ use Rattle.basic_toml_grammar.proofs.Clash.PathsAgree.{append_none}
 use Rattle.basic_toml_grammar.proofs.Clash.StepTestsDecide.{begins_itself, paths_same}
 use Rattle.basic_toml_grow.specs.Origins.{Origin, along, rows_origins}
 use Rattle.basic_toml_grow.specs.Ways.{sections_origins}
+use Rattle.basic_toml_tree.proofs.Nodes.KeysLead.{Beyond, compare}
 use Rattle.basic_toml_tree.proofs.Nodes.RowKeys.{Of, along_bears, rows_bear}
 use Rattle.basic_toml_tree.proofs.Nodes.RowNodesTold.{located_keyed}
-use Rattle.basic_toml_tree.proofs.Nodes.RowsReach.{Told, rows_told, along_tells, Over, GoneOn, rows_over}
+use Rattle.basic_toml_tree.proofs.Nodes.RowsReach.{rows_told, along_tells, Over, GoneOn, rows_over}
 use Rattle.basic_toml_tree.proofs.Origins.RowsAreNodes.{along_on}
 
 -- sections of the list by their numbers
 none_at : (f : Located → Bool) (ls : List Located) → list_any f ls ≡ false → (m : ℕ) (l : Located)
     → slice_get ls m ≡ Some l → f l ≡ false
-none_at f [] none m l there = absurd (cc)
-none_at f (i ∷ ls) none zero l there =
-    let is : i ≡ l = cc in subst (λ l. f l ≡ false) is (or_parts (f i) (list_any f ls) none).0
-none_at f (i ∷ ls) none (suc m) l there = none_at f ls (or_parts (f i) (list_any f ls) none).1 m l there
+none_at f ls none m l there =
+    false_from_ne_true (f l) (λ e. false≢true (sym none ∙ any_passes_from_place f ls m l there e))
 
 all_at : (f : Located → Bool) (ls : List Located) → list_all f ls ≡ true → (m : ℕ) (l : Located)
     → slice_get ls m ≡ Some l → f l ≡ true
-all_at f [] all m l there = absurd (cc)
-all_at f (i ∷ ls) all zero l there =
-    let is : i ≡ l = cc in subst (λ l. f l ≡ true) is (and_parts (f i) (list_all f ls) all).0
-all_at f (i ∷ ls) all (suc m) l there = all_at f ls (and_parts (f i) (list_all f ls) all).1 m l there
+all_at f ls all m l there =
+    rw (get_or_from_slice_get ls m l l there) at (AllPass-from_list_all f ls all m l (slice_get_within ls m l there))
 
 abbrev At : (Located → Bool) → List Located → Type 0
 At f ls = (m : ℕ) × (l : Located) × (slice_get ls m ≡ Some l) × (f l ≡ true)
@@ -56,13 +55,11 @@ pairs_apart (l ∷ ls) none zero zero i j at_a at_b other = absurd (other refl)
 pairs_apart (l ∷ ls) none zero (suc b) i j at_a at_b other =
     let is : l ≡ i = cc in
     let first = (or_parts (list_any (clashes l) ls) (any_pair clashes ls) none).0 in
-    subst (λ i. clashes_one_way i j ≡ false) is
-    (or_parts (clashes_one_way l j) (clashes_one_way j l) (none_at (clashes l) ls first b j at_b)).0
+    rw (← is) (or_parts (clashes_one_way l j) (clashes_one_way j l) (none_at (clashes l) ls first b j at_b)).0
 pairs_apart (l ∷ ls) none (suc a) zero i j at_a at_b other =
     let is : l ≡ j = cc in
     let first = (or_parts (list_any (clashes l) ls) (any_pair clashes ls) none).0 in
-    subst (λ j. clashes_one_way i j ≡ false) is
-    (or_parts (clashes_one_way l i) (clashes_one_way i l) (none_at (clashes l) ls first a i at_a)).1
+    rw (← is) (or_parts (clashes_one_way l i) (clashes_one_way i l) (none_at (clashes l) ls first a i at_a)).1
 pairs_apart (l ∷ ls) none (suc a) (suc b) i j at_a at_b other =
     pairs_apart ls (or_parts (list_any (clashes l) ls) (any_pair clashes ls) none).1 a b i j at_a at_b
     (λ e. other (ap suc e))
@@ -71,26 +68,23 @@ pairs_apart (l ∷ ls) none (suc a) (suc b) i j at_a at_b other =
 last_key : (u : Step) (b : Path) (ks : KeyTexts) (z : Path) → steps_of ks ≡ (u ∷ b) ++ z
     → without_last_number (u ∷ b) ≡ u ∷ b
 last_key u b [] z is = absurd (cc)
+last_key (number n) b (l ∷ ks) z is = let bad : key l ≡ number n = cc in absurd (cc)
 last_key (key k) [] (l ∷ ks) z is = refl
-last_key (number n) [] (l ∷ ks) z is = let bad : key l ≡ number n = cc in absurd (cc)
 last_key (key k) (t ∷ b) (l ∷ ks) z is =
     let rest : steps_of ks ≡ (t ∷ b) ++ z = cc in ap (λ p. key k ∷ p) (last_key t b ks z rest)
-last_key (number n) (t ∷ b) (l ∷ ks) z is = let bad : key l ≡ number n = cc in absurd (cc)
 
 keeps_last : (w : Path) (u : Step) (b : Path) → without_last_number (u ∷ b) ≡ u ∷ b
     → without_last_number (w ++ u ∷ b) ≡ w ++ u ∷ b
 keeps_last [] u b e = e
-keeps_last (key k ∷ []) u b e = ap (λ p. key k ∷ p) e
-keeps_last (number n ∷ []) u b e = ap (λ p. number n ∷ p) e
-keeps_last (key k ∷ v ∷ w) u b e = ap (λ p. key k ∷ p) (keeps_last (v ∷ w) u b e)
-keeps_last (number n ∷ v ∷ w) u b e = ap (λ p. number n ∷ p) (keeps_last (v ∷ w) u b e)
+keeps_last (s ∷ []) u b e = ap (λ p. s ∷ p) e
+keeps_last (s ∷ v ∷ w) u b e = ap (λ p. s ∷ p) (keeps_last (v ∷ w) u b e)
 
 target_is : (j : Located) → without_last_number j.path ≡ j.path → target j ≡ j.path
-target_is j e = go j.section.is_array
-  where
-    go : (a : Bool) → (if a then without_last_number j.path else j.path) ≡ j.path
-    go true = e
-    go false = refl
+target_is j e =
+    elim j.section.is_array as (λ a. (if a then without_last_number j.path else j.path) ≡ j.path) [
+      | true ↦ e
+      | false ↦ refl
+    ]
 
 any_on : (u : Step) (f : Path → Bool) (ps : List Path)
     → list_any f (map (λ p. u ∷ p) ps) ≡ list_any (λ p. f (u ∷ p)) ps
@@ -108,58 +102,25 @@ crosses : (i j : Located) (ks : KeyTexts) (u : Step) (b : Path) (t : Step) (x : 
     → steps_of ks ≡ (u ∷ b) ++ t ∷ x → row_crossed i.path (steps_of ks) j ≡ true
 crosses i j ks u b t x below is =
     let same : target j ≡ i.path ++ u ∷ b =
-    target_is j (subst (λ p. without_last_number p ≡ p) (sym below) (keeps_last i.path u b (last_key u b ks (t ∷ x) is)))
-    ∙ below in
-    subst (λ steps. row_crossed i.path steps j ≡ true) (sym is)
-    (among_inner u b t x (λ c. path_eq (i.path ++ c) (target j))
-    (ap (λ p. path_eq (i.path ++ u ∷ b) p) same ∙ paths_same (i.path ++ u ∷ b)))
+    target_is j (rw below (keeps_last i.path u b (last_key u b ks (t ∷ x) is))) ∙ below in
+    rw is (among_inner u b t x (λ c. path_eq (i.path ++ c) (target j)) (rw same (paths_same (i.path ++ u ∷ b))))
 
 begun : (z : Path) (s : Step) (more : Path) → (t : Step) × (x : Path) × (z ++ s ∷ more ≡ t ∷ x)
 begun [] s more = (s, more, refl)
 begun (t ∷ z) s more = (t, z ++ s ∷ more, refl)
 
--- Two sections below which a path goes on alike: one stands where the other does, or further on.
-abbrev Further : Path → Path → Path → Path → Type 0
-Further w y v z = (b : Path) × (v ≡ w ++ b) × (y ≡ b ++ z)
-
-compare : (w y v z : Path) → w ++ y ≡ v ++ z → Further w y v z ⊎ Further v z w y
-compare [] y v z same = inl (v, refl, same)
-compare (s ∷ w) y [] z same = inr (s ∷ w, refl, sym same)
-compare (s ∷ w) y (t ∷ v) z same =
-    let first : s ≡ t = cc in
-    let rest : w ++ y ≡ v ++ z = cc in
-    elim (compare w y v z rest) [
-      | inl b ↦ inl (b.0, ap (λ t. t ∷ v) (sym first) ∙ ap (λ p. s ∷ p) b.1, b.2)
-      | inr b ↦ inr (b.0, ap (λ s. s ∷ w) first ∙ ap (λ p. t ∷ p) b.1, b.2)
-    ]
-
-further_clashes : (i j : Located) (y z : Path) (s : Step) → Further i.path y j.path z
+further_clashes : (i j : Located) (y z : Path) (s : Step) → Beyond i.path y j.path z
     → Over i.path i.section.rows y s → clashes_one_way i j ≡ false → ⊥
 further_clashes i j y z s ([], at, rest) over apart =
     let one = (or_parts (same_path i j) (array_on_cut i j || any_row_clashes i.path i.section.rows j) apart).0 in
-    false≢true (sym one ∙ ap (λ p. path_eq i.path p) (at ∙ append_none i.path) ∙ paths_same i.path)
+    false≢true (sym one ∙ rw (at, append_none i.path) (paths_same i.path))
 further_clashes i j y z s (u ∷ b, at, rest) over apart =
     let two = (or_parts (same_path i j) (array_on_cut i j || any_row_clashes i.path i.section.rows j) apart).1 in
     let row = (or_parts (array_on_cut i j) (any_row_clashes i.path i.section.rows j) two).1 in
     let on = begun z s over.more in
     false≢true (sym (over.crossed j row)
     ∙ crosses i j over.keys u b on.0 on.1 at
-    (over.is ∙ ap (λ y. y ++ s ∷ over.more) rest ∙ append_assoc (u ∷ b) z (s ∷ over.more)
-    ∙ ap (λ p. (u ∷ b) ++ p) on.2))
-
--- A path that goes on from one of two beginnings: the later of them is further on, or goes by the step of the other.
-split : (q w : Path) (s : Step) (r x : Path) → q ++ s ∷ r ≡ w ++ x
-    → ((y : Path) × (q ≡ w ++ y) × (y ++ s ∷ r ≡ x)) ⊎ ((y : Path) × (w ≡ q ++ s ∷ y))
-split [] [] s r x same = inl ([], refl, same)
-split [] (v ∷ w) s r x same = let first : s ≡ v = cc in inr (w, ap (λ v. v ∷ w) (sym first))
-split (u ∷ q) [] s r x same = inl (u ∷ q, refl, same)
-split (u ∷ q) (v ∷ w) s r x same =
-    let first : u ≡ v = cc in
-    let rest : q ++ s ∷ r ≡ w ++ x = cc in
-    elim (split q w s r x rest) [
-      | inl at ↦ inl (at.0, ap (λ u. u ∷ q) first ∙ ap (λ p. v ∷ p) at.1, at.2)
-      | inr at ↦ inr (at.0, ap (λ v. v ∷ w) (sym first) ∙ ap (λ p. u ∷ p) at.1)
-    ]
+    (rw (over.is, rest, append_assoc b z (s ∷ over.more), on.2) refl))
 
 no_longer : (w : Path) (u : Step) (y : Path) → begins (w ++ u ∷ y) w ≡ true → ⊥
 no_longer [] u y e = false≢true e
@@ -192,28 +153,26 @@ teller n (l ∷ later) p o told =
         → option_or a (sections_origins (suc n) later p) ≡ Some o
         → (sections_origins (suc n) later p ≡ Some o → Teller (suc n) later p) → Teller n (l ∷ later) p
     go (Some x) e told below =
-        let is : n ≡ n + 0 = omega arith in
-        (0, l, refl, x, subst (λ a. along l.path (rows_origins a l.section.rows) p ≡ Some x) is e)
+        let is : n + 0 ≡ n = omega arith in (0, l, refl, x, rw is e)
     go None e told below =
         let at = below told in
-        let is : suc n + at.0 ≡ n + suc at.0 = omega arith in (
-          suc at.0,
-          at.1,
-          at.2,
-          at.3,
-          subst (λ a. along at.1.path (rows_origins a at.1.section.rows) p ≡ Some at.3) is at.4,
-        )
+        let is : n + suc at.0 ≡ suc n + at.0 = omega arith in (suc at.0, at.1, at.2, at.3, rw is at.4)
 
 -- a section below whose table the step is, or something further on, stands before the step
 pub stands_before : (ls : List Located) (q : Path) (s : Step)
     → list_any (λ l. begins (q ++ s ∷ []) l.path) ls ≡ false → (m : ℕ) (l : Located) → slice_get ls m ≡ Some l
     → (r x : Path) → q ++ s ∷ r ≡ l.path ++ x → (y : Path) × (q ≡ l.path ++ y) × (y ++ s ∷ r ≡ x)
-stands_before ls q s not m l there r x same = elim (split q l.path s r x same) [
-  | inl at ↦ at
-  | inr at ↦
-      absurd (false≢true (sym (none_at (λ l. begins (q ++ s ∷ []) l.path) ls not m l there)
-      ∙ ap (begins (q ++ s ∷ [])) (at.1 ∙ sym (append_assoc q (s ∷ []) at.0)) ∙ begins_itself (q ++ s ∷ []) at.0))
+stands_before ls q s not m l there r x same = elim (compare q (s ∷ r) l.path x same) [
+  | inl on ↦ short on
+  | inr on ↦ (on.0, on.1, sym on.2)
 ]
+  where
+    short : Beyond q (s ∷ r) l.path x → (y : Path) × (q ≡ l.path ++ y) × (y ++ s ∷ r ≡ x)
+    short ([], at, rest) = ([], sym (append_none l.path ∙ at ∙ append_none q), rest)
+    short (u ∷ b, at, rest) =
+        let first : s ≡ u = cc in
+        absurd (false≢true (sym (none_at (λ l. begins (q ++ s ∷ []) l.path) ls not m l there)
+        ∙ rw (at, ← first, ← (append_assoc q (s ∷ []) b)) (begins_itself (q ++ s ∷ []) b)))
 
 -- What rows put below a key that no header names or passes through, of a table that headers made: rows put something
 -- at that key, too, and of the same section.
@@ -233,17 +192,14 @@ module _ (ls : List Located) (apart : any_pair clashes ls ≡ false)
         → GoneOn l.path l.section.rows y
     gone_on m l there [] at = inl refl
     gone_on m l there (u ∷ y) at =
-        let some = some_at (λ l. begins q l.path) ls (subst (λ q. list_any (λ l. begins q l.path) ls ≡ true) (sym at)
-        (made_by ls l.path u y (subst (λ q. is_made ls q ≡ true) at made))) in
-        let on : begins (l.path ++ u ∷ y) some.1.path ≡ true = subst (λ q. begins q some.1.path ≡ true) at some.3 in
-        inr (some.1, on, rows_apart some.0 some.1 some.2 on)
+        let some = some_at (λ j. begins (l.path ++ u ∷ y) j.path) ls (made_by ls l.path u y (rw at at made)) in
+        inr (some.1, some.3, rows_apart some.0 some.1 some.2 some.3)
       where
         rows_apart : (b : ℕ) (j : Located) → slice_get ls b ≡ Some j → begins (l.path ++ u ∷ y) j.path ≡ true
             → any_row_clashes l.path l.section.rows j ≡ false
         rows_apart b j at_b on =
             let one = pairs_apart ls apart m b l j there at_b (λ e.
-            let same : l ≡ j = cc (e, there, at_b) in
-            no_longer l.path u y (subst (λ j. begins (l.path ++ u ∷ y) j.path ≡ true) (sym same) on)) in
+            let same : l ≡ j = cc (e, there, at_b) in no_longer l.path u y (rw (← same) at on)) in
             (or_parts (array_on_cut l j) (any_row_clashes l.path l.section.rows j)
             (or_parts (same_path l j) (array_on_cut l j || any_row_clashes l.path l.section.rows j) one).1).1
 
@@ -258,12 +214,8 @@ module _ (ls : List Located) (apart : any_pair clashes ls ≡ false)
             → (y : Path) × (q ≡ l.path ++ y) × (y ++ s ∷ r ≡ x) → Passes l
         go o x told at =
             let over = rows_over n l.path l.section.rows at.0 s r
-            (all_at (λ l. keyed_within l.section.rows) ls keyed m l there) (gone_on m l there at.0 at.1) in (
-              at.0,
-              at.1,
-              MatchOption-at_some ⊤ (λ o. Over l.path l.section.rows at.0 s) o
-                  (ap (rows_origins n l.section.rows) at.2 ∙ told) over,
-            )
+            (all_at (λ l. keyed_within l.section.rows) ls keyed m l there) (gone_on m l there at.0 at.1) in
+            (at.0, at.1, rw (at.2, told) at over)
 
     -- two of them
     never_two : (a b : ℕ) (i j : Located) → slice_get ls a ≡ Some i → slice_get ls b ≡ Some j → (a ≡ b → ⊥)
@@ -278,20 +230,18 @@ module _ (ls : List Located) (apart : any_pair clashes ls ≡ false)
         → along l.path (rows_origins n l.section.rows) (q ++ s ∷ r) ≡ Some o → Entry q s n (l ∷ later) o
     first_entry n m l later there r o told =
         let f = rows_origins n l.section.rows in
-        let at = MatchOption-at_some ⊤ (λ o. Passes l) o told (passes n m l there r) in
+        let at = rw told at (passes n m l there r) in
         let way : (r : Path) → along l.path f (q ++ s ∷ r) ≡ f (at.0 ++ s ∷ r) =
-        λ r. ap (λ q. along l.path f (q ++ s ∷ r)) at.1 ∙ ap (along l.path f) (append_assoc l.path at.0 (s ∷ r))
-        ∙ along_on l.path (at.0 ++ s ∷ r) f in
-        let front = MatchOption-at_some ⊤ (λ x. Told (f (at.0 ++ s ∷ []))) o (sym (way r) ∙ told)
-        (rows_told n l.section.rows at.0 s r) in
+        λ r. ap (λ q. along l.path f (q ++ s ∷ r)) at.1
+        ∙ rw (append_assoc l.path at.0 (s ∷ r)) (along_on l.path (at.0 ++ s ∷ r) f) in
+        let front = rw (sym (way r) ∙ told) at (rows_told n l.section.rows at.0 s r) in
         let here : along l.path f (q ++ s ∷ []) ≡ Some front.0 = way [] ∙ front.1 in
         let k = key_in at.2.keys at.0 s at.2.more at.2.is in (
           k.0,
           k.1,
           front.0,
-          ap (λ a. option_or a (sections_origins (suc n) later (q ++ s ∷ []))) here,
-          MatchOption-at_some ⊤ (Of n) front.0 here (bears (q ++ s ∷ []))
-              ∙ sym (MatchOption-at_some ⊤ (Of n) o told (bears (q ++ s ∷ r))),
+          rw here refl,
+          (rw here at (bears (q ++ s ∷ []))) ∙ sym (rw told at (bears (q ++ s ∷ r))),
         )
       where
         bears : (p : Path) → IfSome (along l.path (rows_origins n l.section.rows) p) (Of n)
@@ -305,20 +255,12 @@ module _ (ls : List Located) (apart : any_pair clashes ls ≡ false)
       where
         go : (a : Option Origin) → along l.path (rows_origins n l.section.rows) (q ++ s ∷ []) ≡ a
             → Entry q s n (l ∷ later) o
-        go None e = (
-          at.0,
-          at.1,
-          at.2,
-          ap (λ a. option_or a (sections_origins (suc n) later (q ++ s ∷ []))) e ∙ at.3,
-          at.4,
-        )
+        go None e = (at.0, at.1, at.2, rw e at.3, at.4)
         go (Some x) e =
             let other = teller (suc n) later (q ++ s ∷ []) at.2 at.3 in
             let where_j = within other.0 other.1 other.2 in
-            absurd (never_two m where_j.0 l other.1 there where_j.1 where_j.2
-            (MatchOption-at_some ⊤ (λ o. Passes l) x e (passes n m l there []))
-            (MatchOption-at_some ⊤ (λ o. Passes other.1) other.3 other.4
-            (passes (suc n + other.0) where_j.0 other.1 where_j.1 [])))
+            absurd (never_two m where_j.0 l other.1 there where_j.1 where_j.2 (rw e at (passes n m l there []))
+            (rw (other.4) at (passes (suc n + other.0) where_j.0 other.1 where_j.1 [])))
 
     entries_bear : (n : ℕ) (later : List Located) → ((m : ℕ) (l : Located) → slice_get later m ≡ Some l
         → slice_get ls (n + m) ≡ Some l) → (r : Path)
@@ -329,8 +271,7 @@ module _ (ls : List Located) (apart : any_pair clashes ls ≡ false)
       where
         on : (m : ℕ) (j : Located) → slice_get later m ≡ Some j → slice_get ls (suc n + m) ≡ Some j
         on m j at =
-            let is : n + suc m ≡ suc n + m = omega arith in
-            subst (λ a. slice_get ls a ≡ Some j) is (within (suc m) j at)
+            let is : suc n + m ≡ n + suc m = omega arith in rw is (within (suc m) j at)
 
         elsewhere : (b : ℕ) (j : Located) → slice_get later b ≡ Some j
             → (c : ℕ) × (slice_get ls c ≡ Some j) × (n + 0 ≡ c → ⊥)
@@ -350,4 +291,4 @@ pub entry_bears : (sections : List Section) → sections_clash sections ≡ fals
     → IfSome (sections_origins 0 (located sections) (q ++ s ∷ r)) (Entry q s 0 (located sections))
 entry_bears sections apart keyed q s r made not =
     entries_bear (located sections) apart (located_keyed [] sections ∙ keyed) q s made not 0 (located sections)
-    (λ m l at. let is : m ≡ 0 + m = omega arith in subst (λ a. slice_get (located sections) a ≡ Some l) is at) r
+    (λ m l at. let is : 0 + m ≡ m = omega arith in rw is at) r

@@ -1,8 +1,8 @@
 -- The offset that names a node in errors, by the section list: where the node begins, but for an array the outer
 -- offset.
-use Rattle.std.proofs.Common.{◌≡◌, ◌⊎◌, inl, inr, ℕ, Bool, true, false, List, [], ◌∷◌, Option, Some, None, refl, ap}
+use Rattle.std.proofs.Common.{◌≡◌, ◌⊎◌, inl, inr, ℕ, Bool, true, false, List, [], ◌∷◌, Option, refl, ap}
 use Rattle.std.proofs.Common.{sym, ◌∙◌, rules, codes, length, drop, ◌++◌}
-use Rattle.std.specs.Prelude.{if◌then◌else◌, IfSome}
+use Rattle.std.specs.Prelude.{IfSome}
 use Rattle.std.specs.Option.{option_or}
 use Rattle.std.specs.Str.{bytes_eq}
 use Rattle.basic_toml_grammar.specs.Sections.{KeyTexts, texts, Raw, Rows, no_rows, row, Section}
@@ -28,6 +28,7 @@ use Rattle.basic_toml_tree.specs.declared.spot.Spot.TheVariants as spots
 use Rattle.basic_toml_tree.specs.Origin.{is_array_literal, item_name, spot_name, spot_is_made, holds_tables, start_of}
 use Rattle.basic_toml_tree.specs.Origin.{outer_of, offset_of, item_is_literal, raw_is_array, last_at as tree_last}
 use Rattle.basic_toml_tree.proofs.Nodes.NodesOfValues.{one_of, in_value}
+use Rattle.basic_toml_tree.proofs.Nodes.RowKeys.{or_some}
 use Rattle.basic_toml_tree.proofs.Nodes.RowNodesTold.{RowTold}
 
 abbrev names_array : List ℕ → Bool
@@ -43,10 +44,6 @@ value_plain : (keys : KeyTexts) (outer : Option ℕ) (at : ℕ) (v : Raw) → Pl
 value_plain keys outer at (Raw.array z) = inl (refl, refl)
 value_plain keys outer at v = inr (refl, refl)
 
-in_plain : (keys : KeyTexts) (outer : Option ℕ) (at : ℕ) (v : Raw) (p : Path)
-    → IfSome (node_in keys outer at v p) Plain
-in_plain keys outer at v p = in_value keys Plain (value_plain keys) (λ outer at. inr (refl, refl)) outer at v p
-
 rows_plain : (ls : List Located) (last : Option ℕ) (l : Located) (rows : Rows) (p : Path)
     → IfSome (node_of_rows ls last l rows p) Plain
 rows_plain ls last l no_rows p = tt
@@ -56,18 +53,15 @@ rows_plain ls last l (row ks at v rows) p =
     one_of (begins path p) (begins p path)
     (node_in key_path (holder ls last (front path)) at v (drop (length path) p)) (node_of_rows ls last l rows p)
     (dotted_node key_path (holder ls last (front p)) at) Plain
-    (λ _. in_plain key_path (holder ls last (front path)) at v (drop (length path) p)) (λ _. inr (refl, refl))
+    (λ _. in_value key_path Plain (value_plain key_path) (λ outer at. inr (refl, refl)) (holder ls last (front path)) at
+    v (drop (length path) p)) (λ _. inr (refl, refl))
     (rows_plain ls last l rows p)
-
-or_plain : (m n : Option Node) → IfSome m Plain → IfSome n Plain → IfSome (option_or m n) Plain
-or_plain None n first later = later
-or_plain (Some m) n first later = first
 
 sections_plain : (ls : List Located) (last : Option ℕ) (later : List Located) (p : Path)
     → IfSome (node_of_sections ls last later p) Plain
 sections_plain ls last [] p = tt
 sections_plain ls last (l ∷ later) p =
-    or_plain (node_of_rows ls last l l.section.rows p) (node_of_sections ls last later p)
+    or_some (node_of_rows ls last l l.section.rows p) (node_of_sections ls last later p) Plain
     (rows_plain ls last l l.section.rows p) (sections_plain ls last later p)
 
 pub plain_at : (sections : List Section) (p : Path) → is_made (located sections) p ≡ false
@@ -76,11 +70,7 @@ plain_at sections p not = rw not (sections_plain (located sections) (last_at sec
 
 literal_name : (count : ℕ) (spot : Spot) → spot_is_made count spot ≡ false
     → names_array (spot_name count spot) ≡ is_array_literal spot
-literal_name count (spots.Table b) not = go (spot_is_made count (spots.Table b))
-  where
-    go : (b : Bool) → names_array (if b then codes "table" else codes "dotted table") ≡ false
-    go true = refl
-    go false = refl
+literal_name count (spots.Table b) not = rw not refl
 literal_name count (spots.Item b) not = go (out-Item b.now) not
   where
     go : (x : Item-F Item Child Table) → holds_tables x ≡ false
@@ -101,14 +91,9 @@ module _ (node : nodes.Node) (found : Node) (told : RowTold node found) where
   pub row_place : option_or node.outer (tree_last node.tree.now) ≡ found.outer_offset → Plain found
       → offset_of node ≡ found.offset
   unfolding offset_of start_of outer_of
-  row_place outer plain = rw (told.made) (go (is_array_literal node.spot) named plain)
-    where
-      named : names_array found.type_name ≡ is_array_literal node.spot
-      named = ap names_array (sym told.name) ∙ literal_name node.count node.spot told.made
-
-      go : (b : Bool) → names_array found.type_name ≡ b → Plain found
-          → (if b then option_or node.outer (tree_last node.tree.now) else Some node.start) ≡ found.offset
-      go true name (inl array) = outer ∙ sym array.1
-      go true name (inr other) = absurd (false≢true (sym other.0 ∙ name))
-      go false name (inl array) = absurd (false≢true (sym name ∙ array.0))
-      go false name (inr other) = told.start ∙ sym other.1
+  row_place outer plain =
+      let named = ap names_array (sym told.name) ∙ literal_name node.count node.spot told.made in
+      elim plain [
+        | inl array ↦ rw (told.made, ← named, array.0) (outer ∙ sym array.1)
+        | inr other ↦ rw (told.made, ← named, other.0) (told.start ∙ sym other.1)
+      ]

@@ -1,7 +1,6 @@
 -- The nodes of plain values, and of the elements of arrays of them.
-use Rattle.std.proofs.Common.{◌≡◌, ℕ, false, List, [], ◌∷◌, map, length, Some, refl, sym, ap, ◌∙◌, subst, arith, rules}
-use Rattle.std.specs.Prelude.{slice_get, ◌≤◌, Option, None, IfSome, IfNone, MatchOption}
-use Rattle.std.proofs.Math.Path.{fun_ext}
+use Rattle.std.proofs.Common.{◌≡◌, ℕ, false, List, [], ◌∷◌, map, length, Some, refl, sym, ap, ◌∙◌, rules}
+use Rattle.std.specs.Prelude.{slice_get, ◌≤◌, Option, None, IfSome, IfNone, MatchOption, ⊤}
 use Rattle.std.proofs.lemmas.List.{length-map}
 use Rattle.basic_toml_grammar.specs.Mentions.{finished, finished_elements}
 use Rattle.basic_toml_grammar.specs.Nodes.{raw_name, raw_is_slice}
@@ -20,10 +19,11 @@ use Rattle.basic_toml_tree.specs.declared.spot.Spot.{Spot}
 use Rattle.basic_toml_tree.specs.declared.spot.Spot.TheVariants as spots
 use Rattle.basic_toml_tree.specs.Nodes as seen
 use Rattle.basic_toml_tree.specs.Origin.{is_string}
-use Rattle.basic_toml_grow.specs.Origins.{under, at_numbers, value_origins, elements_origins}
+use Rattle.basic_toml_grow.specs.Origins.{value_origins, elements_origins}
 use Rattle.basic_toml_tree.specs.Stands.{SpotComes, ComesFrom, IsPlainElement, spot_origins, node_origins, AtNumber}
 use Rattle.basic_toml_tree.proofs.Nodes.NodesInOrder.{read_mapped}
-use Rattle.basic_toml_tree.proofs.Nodes.NodesCome.{not_marked}
+use Rattle.basic_toml_tree.proofs.Nodes.NodesCome.{comes_alike}
+use Rattle.basic_toml_tree.proofs.Nodes.RowsReach.{all_so}
 
 -- elements, one after another
 datas_placed : (ls : List Placed) → seen.listed (finished_elements (elements_from ls)) ≡ map (λ e. finished e.value) ls
@@ -36,24 +36,14 @@ origins_placed s [] = refl
 origins_placed s (e ∷ ls) = ap (λ os. value_origins s e.offset e.value ∷ os) (origins_placed s ls)
 
 -- the data of plain elements
-pub plain_elements : (es : List Element)
-    → seen.elements_in (finished (plain_array es)) ≡ map (λ e. finished (placed_of e).value) es
-plain_elements es = datas_placed (map placed_of es) ∙ both es
-  where
-    both : (es : List Element)
-        → map (λ e. finished e.value) (map placed_of es) ≡ map (λ e. finished (placed_of e).value) es
-    both [] = refl
-    both (e ∷ es) = ap (λ ds. finished (placed_of e).value ∷ ds) (both es)
-
 pub plain_length : (es : List Element) → length (seen.elements_in (finished (plain_array es))) ≡ length es
-plain_length es = ap length (plain_elements es) ∙ length-map es (λ e. finished (placed_of e).value)
+plain_length es = rw (datas_placed (map placed_of es)) (simp length-map)
 
 pub plain_read : (es : List Element) (n : ℕ) (at : ℕ) (v : Raw)
     → slice_get (map placed_of es) n ≡ Some (record { offset = at; value = v })
     → slice_get (seen.elements_in (finished (plain_array es))) n ≡ Some (finished v)
 plain_read es n at v read =
-    ap (λ ds. slice_get ds n) (datas_placed (map placed_of es))
-    ∙ read_mapped (λ e. finished e.value) (map placed_of es) n (record { offset = at; value = v }) read
+    rw (datas_placed (map placed_of es)) (read_mapped (λ e. finished e.value) (map placed_of es) n _ read)
 
 -- where a plain value comes from
 own_is : (v : Raw) (at s : ℕ)
@@ -75,32 +65,23 @@ plain_slice v = ap (λ v. raw_is_slice (raw_of v)) (sym (raws.roll-out-Raw v)) �
     go (Raw-F.String z) = search (rules, raws.the_lemmas)
     go x = search (rules, raws.the_lemmas)
 
-pub value_comes : (v : PlainValue) (count at s : ℕ)
-    → SpotComes (value_origins s at (raw_of v.value.now)) count (spots.Plain v) at
-value_comes v count at s = record {
+pub value_comes : (v : PlainValue) (spot : Spot) → spot ≡ spots.Plain v → (count at s : ℕ)
+    → SpotComes (value_origins s at (raw_of v.value.now)) count spot at
+value_comes v spot is count at s = rw is (record {
   section = s;
-  own = subst (λ b. IfSome (value_origins s at (raw_of v.value.now) []) (λ o. o.made ≡ false → o ≡ record {
-    made = false;
-    name = raw_name (raw_of v.value.now);
-    start = at;
-    section = s;
-    is_slice = b;
-  })) (plain_slice v.value.now) (own_is (raw_of v.value.now) at s);
-  marked = not_marked None refl (value_origins s at (raw_of v.value.now));
+  own = rw (← (plain_slice v.value.now)) (own_is (raw_of v.value.now) at s);
+  marked = all_so (value_origins s at (raw_of v.value.now) []) ⊤ tt;
   parts = λ r q. refl;
-}
+})
 
 -- an element, from an array of plain elements
 module _ (from node : Node) (es : List Element) (n : ℕ) (is : IsPlainElement from es n node)
     (array : (at s : ℕ) → spot_origins from.spot at s ≡ value_origins s at (plain_array es)) where
   pub element_comes : (s : ℕ) → ComesFrom (λ q. node_origins s from (number n ∷ q)) node
   element_comes s =
-      subst (λ f. ComesFrom f node) (fun_ext (λ q. sym (ap (λ f. f (number n ∷ q)) (array from.start s)
-      ∙ ap (λ os. at_numbers os (number n ∷ q)) (origins_placed s (map placed_of es))
-      ∙ ap (λ o. under o q) (read_mapped (λ e. value_origins s e.offset e.value) (map placed_of es) n
-      (record { offset = node.start; value = raw_of is.plain.value.now }) is.placed))))
-      (subst (λ (spot : Spot). SpotComes (value_origins s node.start (raw_of is.plain.value.now)) node.count spot node.start)
-      (sym is.spot) (value_comes is.plain node.count node.start s))
+      comes_alike (λ q. rw (array from.start s, origins_placed s (map placed_of es),
+      read_mapped (λ e. value_origins s e.offset e.value) (map placed_of es) n _ is.placed) refl)
+      (value_comes is.plain node.spot is.spot node.count node.start s)
 
 -- what is answered for a number of an array of plain elements
 pub plain_given : (from : Node) (es : List Element) (n : ℕ) (result : Option Node)
@@ -112,12 +93,11 @@ pub plain_given : (from : Node) (es : List Element) (n : ℕ) (result : Option N
     (λ node. slice_get (seen.elements_in (seen.node_data from)) n ≡ Some (seen.node_data node))
     × IfSome result (AtNumber from n)
 plain_given from es n None is past some stands =
-    let long = ap (λ d. length (seen.elements_in d)) is ∙ plain_length es in (omega (arith, past, long), tt)
+    (rw (is, plain_length es) past, tt)
 plain_given from es n (Some node) is past some stands =
     let read : slice_get (seen.elements_in (seen.node_data from)) n ≡ Some (seen.node_data node) =
-    ap (λ d. slice_get (seen.elements_in d) n) is
-    ∙ plain_read es n node.start (raw_of some.plain.value.now) some.placed
-    ∙ sym (ap (λ spot. Some (seen.spot_data spot)) some.spot) in (read, stands node some read)
+    rw (is, some.spot) (plain_read es n node.start (raw_of some.plain.value.now) some.placed) in
+    (read, stands node some read)
 
 -- an element, and its value
 pub element_placed : (e : Element)

@@ -1,13 +1,12 @@
 -- The keys that lead to what rows give: those of the section's header, and the first key of the row.
-use Rattle.std.proofs.Common.{◌≡◌, ◌⊎◌, inl, inr, ℕ, zero, suc, ◌+◌, Bool, true, false, List, [], ◌∷◌, ◌++◌, Option}
-use Rattle.std.proofs.Common.{Some, None, refl, ap, sym, ◌∙◌, subst, arith, length, drop, slice_get}
+use Rattle.std.proofs.Common.{◌≡◌, inl, inr, ℕ, zero, suc, ◌+◌, Bool, true, false, List, [], ◌∷◌, ◌++◌, Option}
+use Rattle.std.proofs.Common.{Some, None, refl, ap, sym, ◌∙◌, arith, length, drop, slice_get}
 use Rattle.std.specs.Prelude.{⊤, ◌&&◌, if◌then◌else◌, IfSome}
 use Rattle.std.specs.List.{list_any, list_all}
 use Rattle.std.specs.Option.{option_or}
 use Rattle.std.proofs.lemmas.Bool.{false≢true, and_parts, or_parts}
 use Rattle.std.proofs.lemmas.Option.{IfSome_then}
-use Rattle.basic_toml_grammar.specs.Sections.{KeyTexts, texts, Raw, Elements, no_elements, element, Rows, no_rows}
-use Rattle.basic_toml_grammar.specs.Sections.{Key, row}
+use Rattle.basic_toml_grammar.specs.Sections.{KeyTexts, texts, Raw, Elements, no_elements, element, Rows, no_rows, row}
 use Rattle.basic_toml_grammar.specs.Steps.{Step, key, number, Path, step_eq, begins, steps_of}
 use Rattle.basic_toml_grammar.specs.RowClash.{rows_clash}
 use Rattle.basic_toml_grammar.specs.IndexedPath.{Located}
@@ -21,22 +20,10 @@ use Rattle.basic_toml_grow.specs.Ways.{sections_origins}
 use Rattle.basic_toml_tree.proofs.Nodes.NodesOfValues.{one_of, in_value}
 use Rattle.basic_toml_tree.proofs.Origins.RowsAreNodes.{Same, begins_on, goes_from, rows_apart, section_same}
 
--- below a value the keys stay
-abbrev Keeps : KeyTexts → Node → Type 0
-Keeps keys m = m.key_path ≡ keys
-
-in_keeps : (keys : KeyTexts) (outer : Option ℕ) (at : ℕ) (v : Raw) (p : Path)
-    → IfSome (node_in keys outer at v p) (Keeps keys)
-in_keeps keys outer at v p = in_value keys (Keeps keys) (λ outer at v. refl) (λ outer at. refl) outer at v p
-
 -- a row below its section's table
 module _ (ls : List Located) (last : Option ℕ) (l : Located) (r : Step) (q : Path) where
   abbrev FromRow : Node → Type 0
   FromRow m = (k : List ℕ) × (r ≡ key k) × (m.key_path ≡ texts l.section.header ++ k ∷ [])
-
-  from_key : (k : Key) (ks : List Key) (m : Node) → r ≡ key k.text
-      → Keeps (texts l.section.header ++ first_key (k ∷ ks)) m → FromRow m
-  from_key k ks m is keeps = (k.text, is, keeps)
 
   rows_keep : (rows : Rows) → keyed_within rows ≡ true
       → IfSome (node_of_rows ls last l rows (l.path ++ r ∷ q)) FromRow
@@ -50,37 +37,39 @@ module _ (ls : List Located) (last : Option ℕ) (l : Located) (r : Step) (q : P
       one_of (begins path p) (begins p path)
       (node_in keys (holder ls last (front path)) at v (drop (length path) p)) (node_of_rows ls last l rows p)
       (dotted_node keys (holder ls last (front p)) at) FromRow
-      (λ e. IfSome_then (node_in keys (holder ls last (front path)) at v (drop (length path) p))
-      (in_keeps keys (holder ls last (front path)) at v (drop (length path) p))
-      (λ m. from_key k ks m (sym (step_is (key k.text) r
-      (and_parts (step_eq (key k.text) r) (begins (steps_of (texts ks)) q)
-      (sym (begins_on l.path steps (r ∷ q)) ∙ e)).0))))
-      (λ e. from_key k ks (dotted_node keys (holder ls last (front p)) at) (step_is r (key k.text)
-      (and_parts (step_eq r (key k.text)) (begins q (steps_of (texts ks)))
-      (sym (begins_on l.path (r ∷ q) steps) ∙ e)).0) refl)
+      (λ e.
+      let both = and_parts (step_eq (key k.text) r) (begins (steps_of (texts ks)) q)
+      (sym (begins_on l.path steps (r ∷ q)) ∙ e) in
+      let is = sym (step_is (key k.text) r both.0) in
+      in_value keys FromRow (λ outer at v. (k.text, is, refl)) (λ outer at. (k.text, is, refl))
+      (holder ls last (front path)) at v (drop (length path) p))
+      (λ e.
+      let both = and_parts (step_eq r (key k.text)) (begins q (steps_of (texts ks)))
+      (sym (begins_on l.path (r ∷ q) steps) ∙ e) in (k.text, step_is r (key k.text) both.0, refl))
       (rows_keep rows (and_parts (has_key (k ∷ ks) && value_keyed v) (keyed_within rows) keyed).1)
 
 -- what a section brings bears its number
 abbrev pub Of : ℕ → Origin → Type 0
 Of s o = o.section ≡ s
 
-if_some : (b : Bool) (o : Option Origin) (P : Origin → Type 0) → IfSome o P → IfSome (if b then o else None) P
-if_some true o P some = some
+pub if_some : (b : Bool) (o : Option Origin) (P : Origin → Type 0) → (b ≡ true → IfSome o P)
+    → IfSome (if b then o else None) P
+if_some true o P some = some refl
 if_some false o P some = tt
 
-pub or_some : (m n : Option Origin) (P : Origin → Type 0) → IfSome m P → IfSome n P → IfSome (option_or m n) P
+pub or_some : {A : Type 0} (m n : Option A) (P : A → Type 0) → IfSome m P → IfSome n P → IfSome (option_or m n) P
 or_some None n P first later = later
-or_some (Some o) n P first later = first
+or_some (Some x) n P first later = first
 
 row_bears : (ks : KeyTexts) (d : Origin) (f : Origins) (P : Origin → Type 0) → P d → ((p : Path) → IfSome (f p) P)
     → (p : Path) → IfSome (row_origins ks d f p) P
 row_bears [] d f P own below p = below p
 row_bears (k ∷ []) d f P own below [] = tt
-row_bears (k ∷ []) d f P own below (t ∷ p) = if_some (step_eq t (key k)) (f p) P (below p)
+row_bears (k ∷ []) d f P own below (t ∷ p) = if_some (step_eq t (key k)) (f p) P (λ _. below p)
 row_bears (k ∷ l ∷ ks) d f P own below [] = tt
-row_bears (k ∷ l ∷ ks) d f P own below (t ∷ []) = if_some (step_eq t (key k)) (Some d) P own
+row_bears (k ∷ l ∷ ks) d f P own below (t ∷ []) = if_some (step_eq t (key k)) (Some d) P (λ _. own)
 row_bears (k ∷ l ∷ ks) d f P own below (t ∷ u ∷ p) =
-    if_some (step_eq t (key k)) (row_origins (l ∷ ks) d f (u ∷ p)) P (row_bears (l ∷ ks) d f P own below (u ∷ p))
+    if_some (step_eq t (key k)) (row_origins (l ∷ ks) d f (u ∷ p)) P (λ _. row_bears (l ∷ ks) d f P own below (u ∷ p))
 
 mutual
   value_bears : (s at : ℕ) (v : Raw) (p : Path) → IfSome (value_origins s at v p) (Of s)
@@ -107,7 +96,7 @@ pub along_bears : (w : Path) (f : Origins) (P : Origin → Type 0) → ((p : Pat
     → IfSome (along w f p) P
 along_bears [] f P below p = below p
 along_bears (s ∷ w) f P below [] = tt
-along_bears (s ∷ w) f P below (t ∷ p) = if_some (step_eq t s) (along w f p) P (along_bears w f P below p)
+along_bears (s ∷ w) f P below (t ∷ p) = if_some (step_eq t s) (along w f p) P (λ _. along_bears w f P below p)
 
 -- the section whose row leads to a path, by the number that the origin bears
 pub record FoundIn (n : ℕ) (later : List Located) (p : Path) (m : Node) (o : Origin) : Type 0 where
@@ -172,18 +161,11 @@ sections_found ls last n (l ∷ later) p back apart keyed =
     let k = and_parts (keyed_within l.section.rows) (list_all (λ l. keyed_within l.section.rows) later) keyed in
     one_found n l later p (node_of_rows ls last l l.section.rows p) (node_of_sections ls last later p)
     (along l.path (rows_origins n l.section.rows) p) (sections_origins (suc n) later p)
-    (section_same ls last l n p b.0 a.0 k.0) (from b.0 k.0 (goes_from ls last l n l.path p b.0))
+    (section_same ls last l n p b.0 a.0 k.0) (elim (goes_from ls last l n l.path p b.0) [
+      | inl x ↦ rw (x.2) (IfSome_then (node_of_rows ls last l l.section.rows (l.path ++ x.0 ∷ x.1))
+          (rows_keep ls last l x.0 x.1 l.section.rows k.0)
+          (λ m row. (row.0, x.1, ap (λ r. l.path ++ r ∷ x.1) row.1, row.2)))
+      | inr not ↦ rw (rows_apart ls last l n l.section.rows p not b.0) tt
+    ])
     (along_bears l.path (rows_origins n l.section.rows) (Of n) (λ p. rows_bear n l.section.rows p) p)
     (sections_found ls last (suc n) later p b.1 a.1 k.1)
-  where
-    from : begins p l.path ≡ false → keyed_within l.section.rows ≡ true
-        → ((r : Step) × (q : Path) × (p ≡ l.path ++ r ∷ q)) ⊎ (begins l.path p ≡ false)
-        → IfSome (node_of_rows ls last l l.section.rows p) (FromSection n l later p)
-    from back keyed (inl x) =
-        subst (λ p. IfSome (node_of_rows ls last l l.section.rows p) (FromSection n l later p)) (sym x.2)
-        (IfSome_then (node_of_rows ls last l l.section.rows (l.path ++ x.0 ∷ x.1))
-        (rows_keep ls last l x.0 x.1 l.section.rows keyed)
-        (λ m row. (row.0, x.1, ap (λ r. l.path ++ r ∷ x.1) row.1, row.2)))
-    from back keyed (inr not) =
-        subst (λ m. IfSome m (FromSection n l later p))
-        (sym (rows_apart ls last l n l.section.rows p not back)) tt

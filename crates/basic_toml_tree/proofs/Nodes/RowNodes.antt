@@ -1,12 +1,11 @@
 -- The nodes of the rows of an inline table with plain values.
 use Rattle.std.proofs.Common.{◌≡◌, ◌<◌, ◌≤◌, ◌+◌, inl, inr, ℕ, zero, suc, Bool, true, false, List, [], ◌∷◌, ◌++◌}
-use Rattle.std.proofs.Common.{Some, None, map, length, take, drop, get_or, refl, ap, ap₂, sym, ◌∙◌, subst}
+use Rattle.std.proofs.Common.{Some, None, map, length, take, drop, get_or, refl, ap, sym, ◌∙◌}
 use Rattle.std.proofs.Common.{arith, rules, IsTrue, Vec, Global}
-use Rattle.std.specs.Prelude.{if◌then◌else◌, not, nat_le, slice_get, IfSome}
+use Rattle.std.specs.Prelude.{if◌then◌else◌, not, nat_le, slice_get}
 use Rattle.std.specs.Option.{option_or}
 use Rattle.std.specs.Borrow.{Bor}
 use Rattle.std.specs.Str.{bytes_eq}
-use Rattle.std.proofs.Math.Path.{fun_ext}
 use Rattle.std.proofs.lemmas.Bool.{false≢true, and_parts, or_parts, false_from_ne_true, not-true}
 use Rattle.std.proofs.lemmas.List.{take_more, map-append, length-map, drop_all}
 use Rattle.std.proofs.lemmas.Option.{get_or_from_slice_get, slice_get_within}
@@ -19,11 +18,11 @@ use Rattle.basic_toml_index.proofs.DistinctKeys.{bytes_eq-same, bytes_eq_other, 
 use Rattle.basic_toml_grammar.specs.IndexedPath.{located}
 use Rattle.basic_toml_grammar.specs.Mentions.{finished}
 use Rattle.basic_toml_grammar.specs.Nodes as grammar
-use Rattle.basic_toml_grammar.specs.Sections.{row, Section}
+use Rattle.basic_toml_grammar.specs.Sections.{Section}
 use Rattle.basic_toml_value.specs.Pairs.{keys_of as pair_keys}
-use Rattle.basic_toml_grammar.specs.Steps.{key, Path, keys_of}
+use Rattle.basic_toml_grammar.specs.Steps.{key, Path}
 use Rattle.basic_toml_grammar.specs.Trie.{nothing, standing, below}
-use Rattle.basic_toml_read.specs.SectionView.{Lined, raw_of, rows_seen}
+use Rattle.basic_toml_read.specs.SectionView.{raw_of, rows_seen}
 use Rattle.basic_toml_read.specs.declared.section.Raw as raws
 use Rattle.basic_toml_read.specs.declared.section.Raw.TheOpen.{Raw-F}
 use Rattle.basic_toml_read.specs.declared.section.Element.{Element}
@@ -37,25 +36,21 @@ use Rattle.basic_toml_plain.specs.Values.{row_pair}
 use Rattle.basic_toml_plain.proofs.SimpleKeys.{keys_differ}
 use Rattle.basic_toml_plain.proofs.RowsData.{few_data, row_keys}
 use Rattle.basic_toml_plain.proofs.PlainLeft.{row_at}
-use Rattle.basic_toml_grow.specs.Item.{item_trie}
-use Rattle.basic_toml_grow.specs.Origins.{value_origins, rows_origins, item_origins, table_within, entry, table_origin}
+use Rattle.basic_toml_grow.specs.Origins.{value_origins, rows_origins, entry}
 use Rattle.basic_toml_grow.specs.declared.item.Item.{Item, out-Item, the_lemmas}
 use Rattle.basic_toml_grow.specs.declared.item.Item.TheOpen.{Item-F}
-use Rattle.basic_toml_grow.specs.declared.item.Item.TheViews.{roll-Item}
 use Rattle.basic_toml_grow.specs.declared.item.Child.{Child}
 use Rattle.basic_toml_grow.specs.declared.item.Table.{Table}
 use Rattle.basic_toml_grow.proofs.ItemsStand.{shape}
 use Rattle.basic_toml_grow.proofs.Origins.OriginsSeen.{or_none}
-use Rattle.basic_toml_tree.specs.Data.{data_of}
-use Rattle.basic_toml_tree.specs.Keys.{KeysLead, KeepsRow, RowsLead}
+use Rattle.basic_toml_tree.specs.Keys.{CountsOn}
 use Rattle.basic_toml_tree.specs.Nodes.{node_data, spot_data, data_among, data_at, entries_in, entries_left}
 use Rattle.basic_toml_tree.specs.Nodes.{key_and_data}
 use Rattle.basic_toml_tree.specs.Origin.{spot_is_made, holds_tables}
 use Rattle.basic_toml_tree.specs.Outer.{kept_below, stands_made}
 use Rattle.basic_toml_tree.specs.Resolve.{IsResolved}
-use Rattle.basic_toml_tree.specs.Stands.{AtKey, IsRowAt, ComesFrom, SpotComes, HoldsRows, ItemRows, RawRows}
-use Rattle.basic_toml_tree.specs.Stands.{IsPlainRow, StandsAt, StandsOn}
-use Rattle.basic_toml_tree.specs.Stands.{StartIsKept, spot_trie, spot_origins, node_origins, tree_trie, trie_at}
+use Rattle.basic_toml_tree.specs.Stands.{AtKey, IsRowAt, ComesFrom, HoldsRows, ItemRows, RawRows, IsPlainRow, StandsAt}
+use Rattle.basic_toml_tree.specs.Stands.{StandsOn, spot_trie, spot_origins, node_origins, tree_trie, trie_at}
 use Rattle.basic_toml_tree.specs.Stands.{is_wrapper, wraps_table, GivesEntry}
 use Rattle.basic_toml_tree.specs.declared.entries.Entries.{Entries}
 use Rattle.basic_toml_tree.specs.declared.node.Node.{Node}
@@ -63,12 +58,13 @@ use Rattle.basic_toml_tree.specs.declared.plain_value.PlainValue.{PlainValue}
 use Rattle.basic_toml_tree.specs.declared.spot.Spot.{Spot}
 use Rattle.basic_toml_tree.specs.declared.spot.Spot.TheVariants as spots
 use Rattle.basic_toml_tree.specs.declared.tree.Tree.{Tree}
-use Rattle.basic_toml_tree.proofs.Nodes.KeysLead.{last_step}
-use Rattle.basic_toml_tree.proofs.Nodes.KeysTold.{count_keeps, made_there}
+use Rattle.basic_toml_tree.proofs.Nodes.KeysLead.{KeepsKeys, rows_on}
+use Rattle.basic_toml_tree.proofs.Nodes.KeysTold.{count_keeps}
 use Rattle.basic_toml_tree.proofs.Nodes.Lines.{around_key}
 use Rattle.basic_toml_tree.proofs.Nodes.MadeNodes.{made_in_trie, root_at, table_at}
+use Rattle.basic_toml_tree.proofs.Nodes.NodesCome.{comes_alike}
 use Rattle.basic_toml_tree.proofs.Nodes.NodesInOrder.{drop_next, paired-members, read_mapped, progress}
-use Rattle.basic_toml_tree.proofs.Nodes.NodesStand.{at_more, stands_on}
+use Rattle.basic_toml_tree.proofs.Nodes.NodesStand.{at_more, no_root, stands_on}
 use Rattle.basic_toml_tree.proofs.Nodes.OuterStands.{keeps_below}
 use Rattle.basic_toml_tree.proofs.Nodes.PlainNodes.{value_comes}
 
@@ -77,22 +73,18 @@ pub none_passed : (rs : List Row) (n : ℕ) (r : Row) (k : List ℕ) → n < len
     → is_among (map key_of (take n rs)) k ≡ false → bytes_eq (key_of r) k ≡ false
     → is_among (map key_of (take (n + 1) rs)) k ≡ false
 none_passed rs n r k within read before other =
-    let more : take (n + 1) rs ≡ take n rs ++ r ∷ [] =
-    take_more rs n r within ∙ ap (λ r. take n rs ++ r ∷ []) (sym read) in
-    ap (λ rs. is_among (map key_of rs) k) more
-    ∙ ap (λ ks. is_among ks k) (map-append key_of (take n rs) (r ∷ []))
-    ∙ is_among-push (map key_of (take n rs)) (key_of r) k
-    ∙ rw (before, bytes_eq_other k (key_of r) other) refl
+    rw (take_more rs n r within, ← read, map-append key_of (take n rs) (r ∷ []),
+    is_among-push (map key_of (take n rs)) (key_of r) k, before, bytes_eq_other k (key_of r) other) refl
 
 -- the first of rows whose keys differ, and the others
-first_apart : (r : Row) (rs : List Row) → are_distinct (map key_of (r ∷ rs)) ≡ true
+pub first_apart : (r : Row) (rs : List Row) → are_distinct (map key_of (r ∷ rs)) ≡ true
     → (is_among (map key_of rs) (key_of r) ≡ false) × (are_distinct (map key_of rs) ≡ true)
 first_apart r rs differ =
     let both = and_parts (not (is_among (map key_of rs) (key_of r))) (are_distinct (map key_of rs)) differ in
     (not-true (is_among (map key_of rs) (key_of r)) both.0, both.1)
 
 -- a later one has another key
-later_key : (x : Row) (rs : List Row) (n : ℕ) (r : Row) → are_distinct (map key_of (x ∷ rs)) ≡ true
+pub later_key : (x : Row) (rs : List Row) (n : ℕ) (r : Row) → are_distinct (map key_of (x ∷ rs)) ≡ true
     → slice_get rs n ≡ Some r → bytes_eq (key_of r) (key_of x) ≡ false
 later_key x rs n r differ read =
     first_differs (key_of x) (map key_of rs) n (key_of r) differ (read_mapped key_of rs n r read)
@@ -111,11 +103,7 @@ beside_origins : (s : ℕ) (r : Row) (rs : List Row) (k : List ℕ) (q : Path) (
     ≡ option_or (if b then value_origins s (out-Row r).start (raw_of (out-Row r).value) q else None)
     (rows_origins s (rows_seen [] rs) (key k ∷ q))
 beside_origins s r rs k q b same =
-    let rest = rows_seen [] rs in
-    ap (λ rows. rows_origins s rows (key k ∷ q)) (lone_row r rs)
-    ∙ ap (λ (l : Lined). rows_origins s (row (l.key ∷ []) l.start l.value rest) (key k ∷ q)) (lined_is r)
-    ∙ ap (λ b. option_or (if b then value_origins s (out-Row r).start (raw_of (out-Row r).value) q else None)
-    (rows_origins s rest (key k ∷ q))) same
+    ap (λ rows. rows_origins s rows (key k ∷ q)) (lone_row r rs) ∙ rw (lined_is r, same) refl
 
 no_more_origins : (s : ℕ) (rs : List Row) (k : List ℕ) (q : Path) → is_among (map key_of rs) k ≡ false
     → rows_origins s (rows_seen [] rs) (key k ∷ q) ≡ None
@@ -128,10 +116,7 @@ no_more_origins s (r ∷ rs) k q apart =
 row_data : (rs : List Row) (n : ℕ) (r : Row) → are_distinct (map key_of rs) ≡ true → slice_get rs n ≡ Some r
     → data_among (members_of (map row_pair rs)) (key_of r) ≡ Some (plain_data (out-Row r).value)
 row_data [] n r differ read = absurd (cc)
-row_data (x ∷ rs) zero r differ read =
-    let same : x ≡ r = cc in
-    subst (λ r. data_among (members_of (map row_pair (x ∷ rs))) (key_of r) ≡ Some (plain_data (out-Row r).value)) same
-    (rw (bytes_eq-same (key_of x)) refl)
+row_data (x ∷ rs) zero r differ read = let same : x ≡ r = cc in rw (← same, bytes_eq-same (key_of x)) refl
 row_data (x ∷ rs) (suc n) r differ read =
     rw (later_key x rs n r differ read) (row_data rs n r (first_apart x rs differ).1 read)
 
@@ -142,13 +127,8 @@ own_origins : (s : ℕ) (rs : List Row) (n : ℕ) (r : Row) (q : Path) → are_d
 own_origins s [] n r q differ read = absurd (cc)
 own_origins s (x ∷ rs) zero r q differ read =
     let same : x ≡ r = cc in
-    let first = first_apart x rs differ in
-    subst (λ r. rows_origins s (rows_seen [] (x ∷ rs)) (key (key_of r) ∷ q)
-    ≡ value_origins s (out-Row r).start (raw_of (out-Row r).value) q) same
-    (beside_origins s x rs (key_of x) q true (bytes_eq-same (key_of x))
-    ∙ ap (option_or (value_origins s (out-Row x).start (raw_of (out-Row x).value) q))
-    (no_more_origins s rs (key_of x) q first.0)
-    ∙ or_none (value_origins s (out-Row x).start (raw_of (out-Row x).value) q))
+    rw (← same, beside_origins s x rs (key_of x) q true (bytes_eq-same (key_of x)),
+    no_more_origins s rs (key_of x) q (first_apart x rs differ).0) (or_none _)
 own_origins s (x ∷ rs) (suc n) r q differ read =
     beside_origins s x rs (key_of r) q false (later_key x rs n r differ read)
     ∙ own_origins s rs n r q (first_apart x rs differ).1 read
@@ -158,8 +138,7 @@ pub inline_holds : (spot : Spot) (v : PlainValue) (z : Vec Row Global) (rs : Lis
     → v.value.now ≡ raws.Inline z → rs ≡ z.items → HoldsRows spot rs
 inline_holds spot v z rs at is same =
     let form : raws.out-Raw (raws.Inline z) ≡ Raw-F.Inline z = search (rules, raws.the_lemmas) in
-    subst (λ spot. HoldsRows spot rs) (sym at)
-    (subst (λ x. RawRows x rs) (sym (ap raws.out-Raw is ∙ form)) same)
+    rw (at, is, form) same
 
 -- what a spot with rows stands for
 pub record Means (spot : Spot) (rs : List Row) : Type 0 where
@@ -176,31 +155,21 @@ means (spots.Item b) rs simple holds = go (out-Item b.now) refl holds
     go : (x : Item-F Item Child Table) → out-Item b.now ≡ x → ItemRows x rs → Means (spots.Item b) rs
     go (Item-F.Rows z) is holds =
         let item = shape b.now (Item-F.Rows z) is in
-        let trie : item_trie (roll-Item (Item-F.Rows z)) ≡ leaf (rows_data z) = search (rules, the_lemmas) in
-        let told : data_of (roll-Item (Item-F.Rows z)) ≡ rows_data z = search (rules, the_lemmas) in
-        let origins : (at s : ℕ) → item_origins (roll-Item (Item-F.Rows z)) at s ≡ value_origins s at (plain_table z) =
-        λ at s. search (rules, the_lemmas) in
-        record {
-          trie = λ own. ap item_trie item ∙ trie ∙ ap (λ z. leaf (rows_data z)) (sym holds);
-          is_data = ap data_of item ∙ told ∙ ap rows_data (sym holds);
-          origins = λ at s k q. ap (λ f. f (key k ∷ q)) (ap (λ i. item_origins i at s) item ∙ origins at s
-              ∙ ap (λ z. value_origins s at (plain_table z)) (sym holds));
+        rw holds (record {
+          trie = λ own. rw item (search (rules, the_lemmas));
+          is_data = rw item (search (rules, the_lemmas));
+          origins = λ at s k q. rw item (search (rules, the_lemmas));
           unmade = λ count. ap holds_tables is;
-        }
+        })
     go (Item-F.Section z) is holds =
         let item = shape b.now (Item-F.Section z) is in
-        let told : data_of (roll-Item (Item-F.Section z)) ≡ Data.table (members_of (map row_pair z)) =
-        search (rules, the_lemmas) in
-        let origins : (at s : ℕ) → item_origins (roll-Item (Item-F.Section z)) at s
-        ≡ entry (table_origin true at s) (rows_origins s (rows_seen [] z)) = λ at s. search (rules, the_lemmas) in
-        record {
+        let few : rows_data z ≡ Data.table (members_of (map row_pair z)) = few_data z (rw holds at simple) in
+        rw holds (record {
           trie = λ own. absurd (false≢true (sym own ∙ ap is_wrapper is));
-          is_data = ap data_of item ∙ told ∙ ap (λ z. Data.table (members_of (map row_pair z))) (sym holds)
-              ∙ sym (few_data rs simple);
-          origins = λ at s k q. ap (λ f. f (key k ∷ q)) (ap (λ i. item_origins i at s) item ∙ origins at s)
-              ∙ ap (λ z. rows_origins s (rows_seen [] z) (key k ∷ q)) (sym holds);
+          is_data = rw (item, few) (search (rules, the_lemmas));
+          origins = λ at s k q. rw item (search (rules, the_lemmas));
           unmade = λ count. ap holds_tables is;
-        }
+        })
     go x is holds = absurd holds
 means (spots.Plain v) rs simple holds = go (raws.out-Raw v.value.now) refl holds
   where
@@ -228,10 +197,10 @@ module _ (rs : List Row) (simple : are_few_simple 0 rs ≡ true) where
 
   pub key_found : (n : ℕ) (r : Row) → slice_get rs n ≡ Some r
       → data_at (rows_data rs) (key_of r) ≡ Some (plain_data (out-Row r).value)
-  key_found n r read = ap (λ d. data_at d (key_of r)) (few_data rs simple) ∙ row_data rs n r rows_differ read
+  key_found n r read = rw (few_data rs simple) (row_data rs n r rows_differ read)
 
   pub key_absent : (k : List ℕ) → is_among (map key_of rs) k ≡ false → data_at (rows_data rs) k ≡ None
-  key_absent k absent = ap (λ d. data_at d k) (few_data rs simple) ∙ no_data rs k absent
+  key_absent k absent = rw (few_data rs simple) (no_data rs k absent)
 
   pub rows_entries : entries_in (rows_data rs) ≡ map row_pair rs
   rows_entries = ap entries_in (few_data rs simple) ∙ paired-members (map row_pair rs)
@@ -256,9 +225,8 @@ path_unmade : (from : Node) (tree : Tree) (p : Path) → StandsAt tree p from
 path_unmade from tree [] stands unmade sections resolved =
     absurd (false≢true (sym unmade ∙ (root_at tree from [] stands refl).0.made))
 path_unmade from tree (s ∷ p) stands unmade sections resolved =
-    made_in_trie sections (tree_trie tree) resolved.stands s p
-    ∙ false_from_ne_true (stands_made (standing (trie_at (s ∷ p) (tree_trie tree))))
-    (λ made. false≢true (sym unmade ∙ (table_at tree from (s ∷ p) stands made).0.made))
+    made_in_trie sections (tree_trie tree) resolved.stands (s ∷ p) refl
+    ∙ false_from_ne_true _ (λ made. false≢true (sym unmade ∙ (table_at tree from (s ∷ p) stands made).0.made))
 
 -- What a node keeps of the keys that lead to a row of an inline table, below which nothing is made.
 module _ (from node : Node) (k : List ℕ) (unmade : spot_is_made from.count from.spot ≡ false)
@@ -270,35 +238,23 @@ module _ (from node : Node) (k : List ℕ) (unmade : spot_is_made from.count fro
     | inr there ↦ at_more p (key k) (tree_trie tree) ∙ ap (below (key k)) (sym there.0) ∙ none there.1
   ]
 
-  keys_keep : KeysLead tree (p ++ key k ∷ []) node
-  keys_keep sections resolved made =
-      absurd (false≢true (sym (ap (λ t. stands_made (standing t)) not_there)
-      ∙ sym (made_there sections (tree_trie tree) resolved.stands p k) ∙ made))
-
-  rows_keep : RowsLead tree (p ++ key k ∷ []) node
-  rows_keep sections resolved q l r same made = elim (last_step p q (key k) (key l) r same) [
-    | inl one ↦
-        absurd (false≢true (sym (path_unmade from tree p stands unmade sections resolved)
-        ∙ ap (λ p. grammar.is_made (located sections) p) one.1 ∙ made))
-    | inr further ↦
-        subst (λ trail. IfSome ((table_within tree.root).below (q ++ key l ∷ []))
-        (λ o. o.made ≡ false → KeepsRow tree o.section (keys_of q) l trail)) (sym trail)
-        (stands.rows sections resolved q l further.0 further.1 made)
-  ]
+  row_keeps : CountsOn from node.count → KeepsKeys tree (p ++ key k ∷ []) node
+  row_keeps counts = (
+    count_keeps from node k counts tree p stands,
+    λ sections resolved made. absurd (false≢true (sym (ap (λ t. stands_made (standing t)) not_there)
+        ∙ sym (made_in_trie sections (tree_trie tree) resolved.stands (p ++ key k ∷ []) (no_root p (key k))) ∙ made)),
+    rows_on from node (key k) (λ m first is. trail) tree p stands (λ sections resolved l is made.
+        absurd (false≢true (sym (path_unmade from tree p stands unmade sections resolved) ∙ made))),
+  )
 
 -- the node of a row of an inline table stands at its key
 module _ (from node : Node) (rs : List Row) (holds : HoldsRows from.spot rs) (simple : are_few_simple 0 rs ≡ true)
     (n : ℕ) (r : Row) (read : slice_get rs n ≡ Some r) (is : IsPlainRow from r node) where
   row_comes : (s : ℕ) → ComesFrom (λ q. node_origins s from (key (key_of r) ∷ q)) node
   row_comes s =
-      subst (λ f. ComesFrom f node) (fun_ext (λ q.
-      sym ((means from.spot rs simple holds).origins from.start s (key_of r) q
-      ∙ own_origins s rs n r q (rows_differ rs simple) read
-      ∙ ap (λ at. value_origins s at (raw_of (out-Row r).value) q) (sym is.start)
-      ∙ ap (λ v. value_origins s node.start (raw_of v) q) (sym is.value))))
-      (subst (λ (spot : Spot). SpotComes (value_origins s node.start (raw_of is.plain.value.now)) node.count spot
-      node.start)
-      (sym is.spot) (value_comes is.plain node.count node.start s))
+      comes_alike (λ q. rw ((means from.spot rs simple holds).origins from.start s (key_of r) q,
+      own_origins s rs n r q (rows_differ rs simple) read, ← (is.start), ← (is.value)) refl)
+      (value_comes is.plain node.spot is.spot node.count node.start s)
 
   pub row_stands : StandsOn from (key (key_of r)) node
   row_stands tree p stands =
@@ -307,33 +263,27 @@ module _ (from node : Node) (rs : List Row) (holds : HoldsRows from.spot rs) (si
       let none : wraps_table from.spot ≡ false → below (key (key_of r)) (spot_trie from.spot) ≡ nothing =
       λ own. ap (below (key (key_of r))) (means.trie own) in
       let found : data_at (node_data from) (key_of r) ≡ Some (node_data node) =
-      ap (λ d. data_at d (key_of r)) means.is_data ∙ key_found rs simple n r read
-      ∙ ap Some (sym (row_node_data from node r is)) in
-      let outer : node.outer ≡ kept_below from =
-      is.outer ∙ sym (ap (λ b. if b then None else Some from.start) unmade) in
+      rw (means.is_data, row_node_data from node r is) (key_found rs simple n r read) in
+      let outer : node.outer ≡ kept_below from = rw (is.outer, unmade) refl in
       stands_on from node (key (key_of r)) is.tree found (λ own. inl (none own)) row_comes tree p stands is.nested
-      (subst (λ q. StartIsKept tree q node.outer) (sym (around_key p (key_of r)))
-      (keeps_below from node outer tree p stands)) (count_keeps from node (key_of r) is.count tree p stands)
-      (keys_keep from node (key_of r) unmade none is.trail tree p stands)
-      (rows_keep from node (key_of r) unmade none is.trail tree p stands)
+      (rw (around_key p (key_of r)) (keeps_below from node outer tree p stands))
+      (row_keeps from node (key_of r) unmade none is.trail tree p stands is.count)
 
 -- the row that is found at a key of such rows
-module _ (from : Node) (rs : List Row) (simple : are_few_simple 0 rs ≡ true) (k : List ℕ) (r : Row)
-    (found : IsRowAt rs k r) where
+module _ (rs : List Row) (simple : are_few_simple 0 rs ≡ true) (k : List ℕ) (r : Row) (found : IsRowAt rs k r) where
   pub found_plain : is_plain (out-Row r).value 0 ≡ true
   found_plain =
       plain_at rs simple found.0 r (slice_get_within rs found.0 r found.1)
       (sym (get_or_from_slice_get rs found.0 r r found.1))
 
-  pub found_data : (node : Node) → node_data from ≡ rows_data rs → node_data node ≡ plain_data (out-Row r).value
+  pub found_data : (from node : Node) → node_data from ≡ rows_data rs → node_data node ≡ plain_data (out-Row r).value
       → data_at (node_data from) k ≡ Some (node_data node)
-  found_data node here is =
-      ap (λ d. data_at d k) here ∙ ap (data_at (rows_data rs)) (sym found.2) ∙ key_found rs simple found.0 r found.1
-      ∙ ap Some (sym is)
+  found_data from node here is =
+      rw (here, ← (found.2), is) (key_found rs simple found.0 r found.1)
 
-  pub found_stands : (node : Node) → HoldsRows from.spot rs → IsPlainRow from r node → AtKey from k node
-  found_stands node holds is =
-      subst (λ k. AtKey from k node) found.2 (row_stands from node rs holds simple found.0 r found.1 is)
+  pub found_stands : (from node : Node) → HoldsRows from.spot rs → IsPlainRow from r node → AtKey from k node
+  found_stands from node holds is =
+      rw (← (found.2)) (row_stands from node rs holds simple found.0 r found.1 is)
 
 -- An iterator gives an entry of its table, and goes on to the next.
 pub record GivesNext (before : Entries) (entry : Bor (List ℕ) × Node) (after : Entries) : Type 0 where
@@ -354,16 +304,20 @@ gives_next before entry read stands =
           (omega (arith, ap length first));
     }
 
+pub none_left : (before : Entries) → length (entries_in (node_data before.table)) ≤ before.at
+    → GivesEntry before None before
+none_left before past =
+    let none : entries_left before ≡ [] = drop_all before.at (entries_in (node_data before.table)) past in
+    ((none, none), tt, refl)
+
 -- an iterator over such rows
 module _ (before : Entries) (rs : List Row) (here : node_data before.table ≡ rows_data rs)
     (simple : are_few_simple 0 rs ≡ true) where
   entries_seen : entries_in (node_data before.table) ≡ map row_pair rs
   entries_seen = ap entries_in here ∙ rows_entries rs simple
 
-  pub no_row_left : length rs ≤ before.at → entries_left before ≡ []
-  no_row_left past =
-      let long = ap length entries_seen ∙ length-map rs row_pair in
-      drop_all before.at (entries_in (node_data before.table)) (omega (arith, long, past))
+  pub no_row_left : length rs ≤ before.at → GivesEntry before None before
+  no_row_left past = none_left before (rw entries_seen (omega (arith, length-map rs row_pair, past)))
 
   -- the row at its place comes first of what is left, and the iterator goes on
   pub gives_row : (r : Row) (k : Bor (List ℕ)) (node : Node) → slice_get rs before.at ≡ Some r → k.now ≡ key_of r
@@ -371,6 +325,4 @@ module _ (before : Entries) (rs : List Row) (here : node_data before.table ≡ r
       → GivesNext before (k, node) (record { table = before.table; at = before.at + 1 })
   gives_row r k node read same is stands =
       gives_next before (k, node)
-      (ap (λ l. slice_get l before.at) entries_seen ∙ read_mapped row_pair rs before.at r read
-      ∙ ap₂ (λ (k : List ℕ) d. Some (k, d)) (sym same) (sym is))
-      (subst (λ k. AtKey before.table k node) (sym same) stands)
+      (rw (entries_seen, read_mapped row_pair rs before.at r read, same, is) refl) (rw same stands)

@@ -1,22 +1,23 @@
 -- What rows made, as the tree has it and as the section list foretells it.
-use Rattle.std.proofs.Common.{◌≡◌, ℕ, Bool, false, List, [], ◌∷◌, ◌++◌, Option, Some, None, refl, ap, sym}
-use Rattle.std.proofs.Common.{◌∙◌, subst}
+use Rattle.std.proofs.Common.{◌≡◌, ℕ, Bool, true, false, List, [], ◌∷◌, Option, Some, None, refl, ap, sym, ◌∙◌}
 use Rattle.std.specs.Prelude.{◌||◌, ◌&&◌, IfSome}
 use Rattle.std.specs.List.{list_any, list_all}
 use Rattle.std.proofs.lemmas.Bool.{false≢true, or_parts}
 use Rattle.basic_toml_grammar.specs.Sections.{Section}
-use Rattle.basic_toml_grammar.specs.Steps.{Path}
-use Rattle.basic_toml_grammar.specs.IndexedPath.{located_from, located}
+use Rattle.basic_toml_grammar.specs.Steps.{Path, begins}
+use Rattle.basic_toml_grammar.specs.IndexedPath.{Located, located_from, located}
 use Rattle.basic_toml_grammar.specs.RowClash.{rows_clash, has_row_clash}
 use Rattle.basic_toml_grammar.specs.SectionClash.{sections_clash}
 use Rattle.basic_toml_grammar.specs.Entering.{keyed_within, all_keyed_within}
 use Rattle.basic_toml_grammar.specs.Nodes as grammar
 use Rattle.basic_toml_grammar.proofs.Clash.PathsAgree.{append_none}
+use Rattle.basic_toml_tree.specs.declared.tree.Tree.{Tree}
 use Rattle.basic_toml_tree.specs.declared.node.Node.{Node}
+use Rattle.basic_toml_tree.specs.Resolve.{IsResolved}
 use Rattle.basic_toml_tree.specs.Origin.{is_made, spot_name, spot_is_borrowed}
 use Rattle.basic_toml_grow.specs.Origins.{Origin}
 use Rattle.basic_toml_grow.specs.Ways.{sections_origins}
-use Rattle.basic_toml_tree.specs.Stands.{spot_origin, tree_origins, IsNodeAt}
+use Rattle.basic_toml_tree.specs.Stands.{spot_origin, IsNodeAt}
 use Rattle.basic_toml_tree.proofs.Origins.RowsAreNodes.{Same, of_node, of_origin, sections_same}
 
 -- the list's sections, where they stand
@@ -29,6 +30,29 @@ pub located_keyed : (before ss : List Section)
     → list_all (λ l. keyed_within l.section.rows) (located_from before ss) ≡ all_keyed_within ss
 located_keyed before [] = refl
 located_keyed before (s ∷ ss) = ap (λ b. keyed_within s.rows && b) (located_keyed (s ∷ before) ss)
+
+-- no header leads to what headers did not make
+pub not_led : (ls : List Located) (p : Path) → grammar.is_made ls p ≡ false → list_any (λ l. begins p l.path) ls ≡ false
+not_led ls [] not = absurd (false≢true (sym not))
+not_led ls (s ∷ p) not = not
+
+-- the sections of a list that has a tree, and what rows made there
+module _ (sections : List Section) {tree : Tree} (resolved : IsResolved sections tree) where
+  pub no_clash : (has_row_clash sections ≡ false) × (sections_clash sections ≡ false)
+  no_clash = or_parts (has_row_clash sections) (sections_clash sections) resolved.clash
+
+  pub rows_free : list_any (λ l. rows_clash l.section.rows) (located sections) ≡ false
+  rows_free = located_any (λ s. rows_clash s.rows) [] sections ∙ no_clash.0
+
+  pub rows_keyed : list_all (λ l. keyed_within l.section.rows) (located sections) ≡ true
+  rows_keyed = located_keyed [] sections ∙ resolved.within
+
+  pub told_same : (p : Path) → grammar.is_made (located sections) p ≡ false
+      → Same (grammar.node_of_sections (located sections) (grammar.last_at sections) (located sections) p)
+      (sections_origins 0 (located sections) p)
+  told_same p not =
+      sections_same (located sections) (grammar.last_at sections) 0 (located sections) p
+      (not_led (located sections) p not) rows_free rows_keyed
 
 -- a node that headers did not make
 pub record RowTold (node : Node) (found : grammar.Node) : Type 0 where
@@ -44,32 +68,22 @@ told_by node s None o same own = tt
 told_by node s (Some m) None same own = absurd (cc)
 told_by node s (Some m) (Some o) same own =
     let both : of_node m ≡ of_origin o = cc in
-    let made : o.made ≡ false = sym (ap (λ t. t.made) both) in
-    let is : o ≡ spot_origin node.count node.spot node.start s = own made in
+    let is : o ≡ spot_origin node.count node.spot node.start s = own (sym (ap (λ t. t.made) both)) in
+    let told = sym (ap of_origin is) ∙ sym both in
     record {
-      made = sym (ap (λ o. o.made) is) ∙ made;
-      name = sym (ap (λ o. o.name) is) ∙ sym (ap (λ t. t.name) both);
-      start = sym (ap (λ o. Some o.start) is) ∙ sym (ap (λ t. t.start) both);
-      slice = sym (ap (λ o. o.is_slice) is) ∙ sym (ap (λ t. t.slice) both);
+      made = ap (λ t. t.made) told;
+      name = ap (λ t. t.name) told;
+      start = ap (λ t. t.start) told;
+      slice = ap (λ t. t.slice) told;
     }
 
 pub row_told : (sections : List Section) (p : Path) (node : Node) → IsNodeAt sections p node
     → grammar.is_made (located sections) p ≡ false → IfSome (grammar.node_at sections p) (RowTold node)
-row_told sections [] node is not = absurd (false≢true (sym not))
-row_told sections (r ∷ p) node is not =
+row_told sections p node is not =
     let ls = located sections in
-    let last = grammar.last_at sections in
-    let tree = node.tree.now in
-    let here : tree_origins tree ((r ∷ p) ++ []) ≡ sections_origins 0 ls (r ∷ p) =
-    ap (tree_origins tree) (append_none (r ∷ p)) ∙ is.resolved.origins (r ∷ p) not in
-    let own = subst (λ o. IfSome o (λ o. o.made ≡ false
-    → o ≡ spot_origin node.count node.spot node.start is.stands.comes.section)) here is.stands.comes.own in
-    let same = sections_same ls last 0 ls (r ∷ p) not
-    (located_any (λ s. rows_clash s.rows) [] sections
-    ∙ (or_parts (has_row_clash sections) (sections_clash sections) is.resolved.clash).0)
-    (located_keyed [] sections ∙ is.resolved.within) in
-    rw not (told_by node is.stands.comes.section (grammar.node_of_sections ls last ls (r ∷ p))
-    (sections_origins 0 ls (r ∷ p)) same own)
+    let own = rw (append_none p, is.resolved.origins p not) at is.stands.comes.own in
+    rw not (told_by node is.stands.comes.section (grammar.node_of_sections ls (grammar.last_at sections) ls p)
+    (sections_origins 0 ls p) (told_same sections is.resolved p not) own)
 
 -- two facts of what is there
 pub some_both : {A : Type 0} (o : Option A) {P Q R : A → Type 0} → IfSome o P → IfSome o Q → ((x : A) → P x → Q x → R x)

@@ -1,6 +1,6 @@
 -- Which keys rows lead over: what tells of a path tells of its beginnings, and a row that leads to it goes over them.
 use Rattle.std.proofs.Common.{◌≡◌, ◌⊎◌, inl, inr, ℕ, zero, suc, Bool, true, false, List, [], ◌∷◌, ◌++◌, Option}
-use Rattle.std.proofs.Common.{Some, None, refl, ap, sym, ◌∙◌, subst, slice_get, append_assoc}
+use Rattle.std.proofs.Common.{Some, None, refl, ap, sym, ◌∙◌, slice_get, append_assoc}
 use Rattle.std.specs.Prelude.{◌||◌, ◌&&◌, if◌then◌else◌, IfSome}
 use Rattle.std.specs.Option.{option_or}
 use Rattle.std.proofs.lemmas.Bool.{false≢true, and_parts, or_parts, cases_Bool}
@@ -14,17 +14,21 @@ use Rattle.basic_toml_grammar.specs.Entering.{has_key, keyed_within, value_keyed
 use Rattle.basic_toml_grammar.proofs.Clash.StepTestsDecide.{step_is}
 use Rattle.basic_toml_grow.specs.Origins.{Origin, Origins, entry, under, table_origin, along}
 use Rattle.basic_toml_grow.specs.Origins.{row_origins, value_origins, elements_origins, rows_origins}
-use Rattle.basic_toml_tree.proofs.Nodes.RowKeys.{or_some}
+use Rattle.basic_toml_tree.proofs.Nodes.RowKeys.{if_some, or_some}
 use Rattle.basic_toml_tree.proofs.Origins.RowsAreNodes.{begins_front}
 
 abbrev pub Told : Option Origin → Type 0
 Told o = (x : Origin) × (o ≡ Some x)
 
--- What tells of a path tells of its beginnings, too, from the first key on.
-some_told : (o : Option Origin) (x : Origin) → IfSome o (λ y. Told (Some x))
-some_told None x = tt
-some_told (Some y) x = (x, refl)
+-- what holds anyway
+pub all_so : (o : Option Origin) (T : Type 0) → T → IfSome o (λ x. T)
+all_so None T so = tt
+all_so (Some x) T so = so
 
+some_told : (o : Option Origin) (x : Origin) → IfSome o (λ y. Told (Some x))
+some_told o x = all_so o (Told (Some x)) (x, refl)
+
+-- What tells of a path tells of its beginnings, too, from the first key on.
 if_front : (b : Bool) (o front : Option Origin) → IfSome o (λ x. Told front)
     → IfSome (if b then o else None) (λ x. Told (if b then front else None))
 if_front true o front told = told
@@ -32,9 +36,8 @@ if_front false o front told = tt
 
 or_front : (a b c d : Option Origin) → IfSome a (λ x. Told c) → IfSome b (λ x. Told d)
     → IfSome (option_or a b) (λ x. Told (option_or c d))
-or_front (Some x) b (Some y) d first later = (y, refl)
+or_front a b (Some y) d first later = some_told (option_or a b) y
 or_front (Some x) b None d first later = let bad : None ≡ Some first.0 = first.1 in absurd (cc)
-or_front None b (Some y) d first later = some_told b y
 or_front None b None d first later = later
 
 row_front : (ks : KeyTexts) (d : Origin) (f : Origins) → ((p r : Path) → IfSome (f (p ++ r)) (λ x. Told (f p)))
@@ -76,9 +79,7 @@ mutual
 pub rows_told : (n : ℕ) (rows : Rows) (y : Path) (s : Step) (r : Path)
     → IfSome (rows_origins n rows (y ++ s ∷ r)) (λ x. Told (rows_origins n rows (y ++ s ∷ [])))
 rows_told n rows [] s r = rows_front n rows s [] r
-rows_told n rows (t ∷ y) s r =
-    subst (λ p. IfSome (rows_origins n rows (t ∷ p)) (λ x. Told (rows_origins n rows (t ∷ y ++ s ∷ []))))
-    (append_assoc y (s ∷ []) r) (rows_front n rows t (y ++ s ∷ []) r)
+rows_told n rows (t ∷ y) s r = rw (append_assoc y (s ∷ []) r) at (rows_front n rows t (y ++ s ∷ []) r)
 
 -- what is told of a path along a way
 abbrev pub On : Path → Origins → Path → Origin → Type 0
@@ -101,15 +102,6 @@ along_tells (s ∷ w) f (t ∷ p) = elim (cases_Bool (step_eq t s)) [
 abbrev GoesOver : KeyTexts → Path → Step → Type 0
 GoesOver ks y s = ((more : Path) × (steps_of ks ≡ y ++ s ∷ more)) ⊎ ((rest : Path) × (y ≡ steps_of ks ++ rest))
 
-if_so : (b : Bool) (o : Option Origin) (T : Type 0) → (b ≡ true → IfSome o (λ x. T))
-    → IfSome (if b then o else None) (λ x. T)
-if_so true o T so = so refl
-if_so false o T so = tt
-
-all_so : (o : Option Origin) (T : Type 0) → T → IfSome o (λ x. T)
-all_so None T so = tt
-all_so (Some x) T so = so
-
 entry_below : (d : Origin) (g : Origins) (y : Path) (s : Step) (r : Path) → entry d g (y ++ s ∷ r) ≡ g (y ++ s ∷ r)
 entry_below d g [] s r = refl
 entry_below d g (t ∷ y) s r = refl
@@ -122,21 +114,20 @@ further k ks t y s is (inr past) = inr (past.0, ap (λ t. t ∷ y) is ∙ ap (λ
 row_over : (k : List ℕ) (ks : KeyTexts) (d : Origin) (f : Origins) (y : Path) (s : Step) (r : Path)
     → IfSome (row_origins (k ∷ ks) d f (y ++ s ∷ r)) (λ x. GoesOver (k ∷ ks) y s)
 row_over k [] d f [] s r =
-    if_so (step_eq s (key k)) (f r) (GoesOver (k ∷ []) [] s)
+    if_some (step_eq s (key k)) (f r) (λ x. GoesOver (k ∷ []) [] s)
     (λ e. all_so (f r) (GoesOver (k ∷ []) [] s) (inl ([], ap (λ t. t ∷ []) (sym (step_is s (key k) e)))))
 row_over k [] d f (t ∷ y) s r =
-    if_so (step_eq t (key k)) (f (y ++ s ∷ r)) (GoesOver (k ∷ []) (t ∷ y) s)
+    if_some (step_eq t (key k)) (f (y ++ s ∷ r)) (λ x. GoesOver (k ∷ []) (t ∷ y) s)
     (λ e. all_so (f (y ++ s ∷ r)) (GoesOver (k ∷ []) (t ∷ y) s) (inr (y, ap (λ t. t ∷ y) (step_is t (key k) e))))
 row_over k (l ∷ ks) d f [] s r =
     let more = entry d (row_origins (l ∷ ks) d f) r in
-    if_so (step_eq s (key k)) more (GoesOver (k ∷ l ∷ ks) [] s)
+    if_some (step_eq s (key k)) more (λ x. GoesOver (k ∷ l ∷ ks) [] s)
     (λ e. all_so more (GoesOver (k ∷ l ∷ ks) [] s)
     (inl (steps_of (l ∷ ks), ap (λ t. t ∷ steps_of (l ∷ ks)) (sym (step_is s (key k) e)))))
 row_over k (l ∷ ks) d f (t ∷ y) s r =
     let more = row_origins (l ∷ ks) d f in
-    if_so (step_eq t (key k)) (entry d more (y ++ s ∷ r)) (GoesOver (k ∷ l ∷ ks) (t ∷ y) s)
-    (λ e. subst (λ o. IfSome o (λ x. GoesOver (k ∷ l ∷ ks) (t ∷ y) s)) (sym (entry_below d more y s r))
-    (IfSome_then (more (y ++ s ∷ r)) (row_over l ks d f y s r)
+    if_some (step_eq t (key k)) (entry d more (y ++ s ∷ r)) (λ x. GoesOver (k ∷ l ∷ ks) (t ∷ y) s)
+    (λ e. rw (entry_below d more y s r) (IfSome_then (more (y ++ s ∷ r)) (row_over l ks d f y s r)
     (λ x over. further k (l ∷ ks) t y s (step_is t (key k) e) over)))
 
 -- Some row of a section passes by a step; it crosses no header that none of the rows crosses.
@@ -157,8 +148,7 @@ ends_nowhere w k ks at v rows y (inl none) rest is =
 ends_nowhere w k ks at v rows y (inr gone) rest is =
     let steps = steps_of (texts (k ∷ ks)) in
     let on : begins (w ++ steps) gone.0.path ≡ true =
-    begins_front (w ++ steps) rest gone.0.path
-    (subst (λ p. begins p gone.0.path ≡ true) (ap (λ y. w ++ y) is ∙ sym (append_assoc w steps rest)) gone.1) in
+    begins_front (w ++ steps) rest gone.0.path (rw (append_assoc w steps rest, ← is) gone.1) in
     let apart = or_parts (row_on_path w steps gone.0 || row_crossed w steps gone.0) (any_row_clashes w rows gone.0)
     gone.2 in
     false≢true (sym (or_parts (row_on_path w steps gone.0) (row_crossed w steps gone.0) apart.0).0 ∙ on)

@@ -1,9 +1,8 @@
 -- One of the tables of an array of tables stands at its number, whether they have entries or stand as they were read.
-use Rattle.std.proofs.Common.{◌≡◌, ◌==◌, ℕ, zero, suc, ◌+◌, true, false, List, [], ◌∷◌, ◌++◌, Some, ap, sym, ◌∙◌}
-use Rattle.std.proofs.Common.{subst, arith, map, Vec, Box, Global, inr}
+use Rattle.std.proofs.Common.{◌≡◌, ℕ, zero, suc, ◌+◌, true, false, List, [], ◌∷◌, ◌++◌, Some, ap, sym}
+use Rattle.std.proofs.Common.{refl, arith, map, Vec, Box, Global, inr}
 use Rattle.std.specs.Prelude.{slice_get, nat_eq}
 use Rattle.std.specs.Borrow.{Bor}
-use Rattle.std.proofs.Math.Path.{fun_ext}
 use Rattle.std.proofs.lemmas.List.{map-append}
 use Rattle.basic_toml_grammar.specs.Steps.{number, Path}
 use Rattle.basic_toml_grammar.specs.Trie.{Trie, below, find}
@@ -13,7 +12,7 @@ use Rattle.basic_toml_plain.specs.PlainTables.{SectionTable, SectionTables, tabl
 use Rattle.basic_toml_plain.specs.Values.{section_data}
 use Rattle.basic_toml_plain.proofs.RowsData.{few_data}
 use Rattle.basic_toml_grow.specs.Item.{by_numbers, item_trie, table_trie}
-use Rattle.basic_toml_grow.specs.Origins.{item_origins, of_table, section_origins, table_within, under}
+use Rattle.basic_toml_grow.specs.Origins.{item_origins, of_table, section_origins, table_within}
 use Rattle.basic_toml_grow.specs.Simple.{table_of as table_read}
 use Rattle.basic_toml_grow.specs.declared.item.Item.{Item, Sections, Tables}
 use Rattle.basic_toml_grow.specs.declared.item.Table.{Table}
@@ -22,14 +21,13 @@ use Rattle.basic_toml_grow.proofs.TablesOpened.{section_item_trie, sections_trie
 use Rattle.basic_toml_grow.proofs.Origins.OriginsSeen.{sections_seen, tables_seen}
 use Rattle.basic_toml_tree.specs.Data.{data_of, table_data}
 use Rattle.basic_toml_tree.specs.HeaderTables.{table_of}
-use Rattle.basic_toml_tree.specs.Nodes.{elements_in, node_data, spot_data}
-use Rattle.basic_toml_tree.specs.Stands.{AtNumber, ComesFrom, IsBeside, node_origins, spot_origins, spot_trie}
-use Rattle.basic_toml_tree.specs.Stands.{wraps_table}
+use Rattle.basic_toml_tree.specs.Nodes.{elements_in, node_data}
+use Rattle.basic_toml_tree.specs.Stands.{AtNumber, IsBeside, spot_trie, wraps_table}
 use Rattle.basic_toml_tree.specs.declared.node.Node.{Node}
 use Rattle.basic_toml_tree.specs.declared.spot.HeaderTable.{HeaderTable}
 use Rattle.basic_toml_tree.specs.declared.spot.Spot.TheVariants as spots
 use Rattle.basic_toml_tree.proofs.SectionData.{section_table_data}
-use Rattle.basic_toml_tree.proofs.Nodes.NodesCome.{table_node_comes}
+use Rattle.basic_toml_tree.proofs.Nodes.NodesCome.{comes_alike, table_node_comes}
 use Rattle.basic_toml_tree.proofs.Nodes.NodesInOrder.{sections_elements, tables_elements, read_mapped}
 use Rattle.basic_toml_tree.proofs.Nodes.NodesStand.{tells_table, beside_stands}
 
@@ -56,8 +54,7 @@ module _ {A B : Type 0} (f : A → B) (earlier : List A) (latest : A) (n : ℕ) 
     (read : slice_get (earlier ++ latest ∷ []) n ≡ Some x) where
   mapped : slice_get (map f earlier ++ f latest ∷ []) n ≡ Some (f x)
   mapped =
-      ap (λ ys. slice_get ys n) (sym (map-append f earlier (latest ∷ [])))
-      ∙ read_mapped f (earlier ++ latest ∷ []) n x read
+      rw (map-append f earlier (latest ∷ [])) at (read_mapped f (earlier ++ latest ∷ []) n x read)
 
 pub table_among : (tables : Box (Vec Table Global × Table) Global) (n : ℕ) (t : Table)
     → slice_get (tables.value.0.items ++ tables.value.1 ∷ []) n ≡ Some t → TableAmong (Tables tables) n t
@@ -65,14 +62,12 @@ table_among tables n t read =
     let ts : List Table = tables.value.0.items in
     let last = tables.value.1 in
     record {
-      is_data = ap (λ ds. slice_get ds n) (tables_elements tables) ∙ mapped table_data ts last n t read;
+      is_data = rw (tables_elements tables) (mapped table_data ts last n t read);
       tables = ap tells_table (tables_trie tables);
-      is_trie = ap (below (number n)) (tables_trie tables)
-          ∙ find_number 0 n n (map table_trie ts ++ table_trie last ∷ []) (table_trie t) (omega arith)
-          (mapped table_trie ts last n t read);
-      origins = λ at s q. ap (λ f. f (number n ∷ q)) (tables_seen tables at s)
-          ∙ ap (λ f. under f q) (read_mapped (of_table at s) (map table_within ts ++ table_within last ∷ []) n
-          (table_within t) (mapped table_within ts last n t read));
+      is_trie = rw (tables_trie tables) (find_number 0 n n (map table_trie ts ++ table_trie last ∷ []) (table_trie t)
+          (omega arith) (mapped table_trie ts last n t read));
+      origins = λ at s q. rw (tables_seen tables at s, read_mapped (of_table at s)
+          (map table_within ts ++ table_within last ∷ []) n _ (mapped table_within ts last n t read)) refl;
     }
 
 pub section_among : (tables : Box SectionTables Global) (n : ℕ) (t : SectionTable)
@@ -82,17 +77,14 @@ section_among tables n t read simple =
     let ts = tables.value.0 in
     let last = tables.value.1 in
     record {
-      is_data = ap (λ ds. slice_get ds n) (sections_elements tables)
-          ∙ read_mapped (λ t. section_data t.1) (tables_in tables.value) n t read
-          ∙ ap Some (sym (few_data t.1 simple) ∙ sym (section_table_data t.0 t.1 simple));
+      is_data = rw (sections_elements tables, section_table_data t.0 t.1 simple, few_data t.1 simple)
+          (read_mapped (λ t. section_data t.1) (tables_in tables.value) n t read);
       tables = ap tells_table (sections_trie tables);
-      is_trie = ap (below (number n)) (sections_trie tables)
-          ∙ find_number 0 n n (map (λ t. rows_trie t.1) ts ++ rows_trie last.1 ∷ []) (rows_trie t.1) (omega arith)
-          (mapped (λ t. rows_trie t.1) ts last n t read)
-          ∙ sym (section_item_trie t.1) ∙ section_trie t.0 t.1 simple;
-      origins = λ at s q. ap (λ f. f (number n ∷ q)) (sections_seen tables at s)
-          ∙ ap (λ f. under f q) (mapped (section_origins at) ts last n t read)
-          ∙ ap (λ w. of_table at s w q) (sym (section_within t.0 t.1 simple));
+      is_trie = rw (sections_trie tables, ← (section_trie t.0 t.1 simple), section_item_trie t.1)
+          (find_number 0 n n (map (λ t. rows_trie t.1) ts ++ rows_trie last.1 ∷ []) (rows_trie t.1) (omega arith)
+          (mapped (λ t. rows_trie t.1) ts last n t read));
+      origins = λ at s q. rw (sections_seen tables at s, mapped (section_origins at) ts last n t read,
+          section_within t.0 t.1 simple) refl;
     }
 
 -- its node
@@ -100,27 +92,14 @@ pub table_stands : (from node : Node) (n : ℕ) (b : Bor Item) (t : HeaderTable)
     → (i : Item) → b.now ≡ i → TableAmong i n (table_of t)
     → IsBeside from (spots.Table t) node → node.start ≡ from.start
     → (slice_get (elements_in (node_data from)) n ≡ Some (node_data node)) × AtNumber from n node
-table_stands from node n b t at i is among_i beside start = (read, stands)
-  where
-    among : TableAmong b.now n (table_of t)
-    among = subst (λ i. TableAmong i n (table_of t)) (sym is) among_i
-
-    read : slice_get (elements_in (node_data from)) n ≡ Some (node_data node)
-    read =
-        ap (λ spot. slice_get (elements_in (spot_data spot)) n) at ∙ among.is_data
-        ∙ ap (λ spot. Some (spot_data spot)) (sym beside.spot)
-
-    there : spot_trie node.spot ≡ below (number n) (spot_trie from.spot)
-    there =
-        ap spot_trie beside.spot ∙ sym (ap (λ spot. below (number n) (spot_trie spot)) at ∙ among.is_trie)
-
-    comes : (node.count == 0) ≡ false → (s : ℕ) → ComesFrom (λ q. node_origins s from (number n ∷ q)) node
-    comes counted s =
-        subst (λ f. ComesFrom f node)
-        (fun_ext (λ q. sym (ap (λ spot. spot_origins spot from.start s (number n ∷ q)) at ∙ among.origins from.start s q)))
-        (table_node_comes t node from.start s beside.spot start counted)
-
-    stands : AtNumber from n node
-    stands =
-        beside_stands from node (spots.Table t) n beside (ap (λ spot. tells_table (spot_trie spot)) at ∙ among.tables)
-        read (λ own. inr (there, ap wraps_table beside.spot)) comes
+table_stands from node n b t at i is among beside start =
+    let read : slice_get (elements_in (node_data from)) n ≡ Some (node_data node) =
+    rw (at, is, beside.spot) among.is_data in
+    let there : spot_trie node.spot ≡ below (number n) (spot_trie from.spot) =
+    rw (at, is, beside.spot) (sym among.is_trie) in (
+      read,
+      beside_stands from node (spots.Table t) n beside (rw (at, is) among.tables) read
+          (λ own. inr (there, ap wraps_table beside.spot)) (λ counted s. comes_alike
+          (λ q. rw (at, is) (among.origins from.start s q))
+          (table_node_comes t node from.start s beside.spot start counted)),
+    )

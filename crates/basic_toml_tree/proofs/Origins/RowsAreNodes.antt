@@ -1,17 +1,17 @@
 -- What the rows of sections bring into the tree is what the section list says of it.
 use Rattle.std.proofs.Common.{◌≡◌, ◌⊎◌, inl, inr, ℕ, zero, suc, Bool, true, false, List, [], ◌∷◌, ◌++◌, Option, Some}
-use Rattle.std.proofs.Common.{None, refl, ap, sym, ◌∙◌, length, drop, slice_get, option_map}
+use Rattle.std.proofs.Common.{None, refl, ap, sym, length, drop, slice_get, option_map, arith}
 use Rattle.std.specs.Prelude.{◌||◌, ◌&&◌, if◌then◌else◌}
 use Rattle.std.specs.List.{list_any, list_all}
 use Rattle.std.specs.Option.{option_or}
-use Rattle.std.proofs.lemmas.Bool.{false≢true, and_parts, or_parts, cases_Bool, false_from_ne_true, or_right, or_left}
+use Rattle.std.proofs.lemmas.Bool.{false≢true, and_parts, or_parts, cases_Bool, or_right, and_right}
 use Rattle.basic_toml_grammar.specs.Sections.{KeyTexts, texts, Raw, Elements, no_elements, element, Rows, no_rows, row}
 use Rattle.basic_toml_grammar.specs.Steps.{Step, key, number, Path, step_eq, begins, overlap, steps_of}
 use Rattle.basic_toml_grammar.specs.RowClash.{any_overlaps, rows_clash, value_clashes, elements_clash}
 use Rattle.basic_toml_grammar.specs.IndexedPath.{Located}
 use Rattle.basic_toml_grammar.specs.Entering.{has_key, keyed_within, value_keyed, elements_keyed}
 use Rattle.basic_toml_grammar.specs.NamedClash.{first_key}
-use Rattle.basic_toml_grammar.specs.Nodes.{Node, front, dotted_node, holder_in, node_in, node_among, node_by}
+use Rattle.basic_toml_grammar.specs.Nodes.{Node, front, holder_in, node_in, node_among, node_by}
 use Rattle.basic_toml_grammar.specs.Nodes.{holder, node_of_rows, node_of_sections}
 use Rattle.basic_toml_grammar.proofs.Clash.ClashesAgree.{turn_eq}
 use Rattle.basic_toml_grammar.proofs.Clash.StepTestsDecide.{step_is, step_same}
@@ -41,89 +41,51 @@ abbrev by_keys : Path → Origin → Origins → Path → Option Origin
 by_keys steps o f p =
     if begins steps p then f (drop (length steps) p) else if begins p steps then Some o else None
 
-row_begins : (k : List ℕ) (ks : KeyTexts) (o : Origin) (f : Origins) (r : Step) (q : Path)
-    → row_origins (k ∷ ks) o f (r ∷ q) ≡ by_keys (steps_of (k ∷ ks)) o f (r ∷ q)
-row_begins k [] o f r q = elim (cases_Bool (step_eq r (key k))) [
-  | inl e ↦ rw (turn_eq (key k) r, e) refl
-  | inr e ↦ rw (turn_eq (key k) r, e) refl
-]
-row_begins k (l ∷ ls) o f r [] = elim (cases_Bool (step_eq r (key k))) [
-  | inl e ↦ rw (turn_eq (key k) r, e) refl
-  | inr e ↦ rw (turn_eq (key k) r, e) refl
-]
-row_begins k (l ∷ ls) o f r (t ∷ p) = elim (cases_Bool (step_eq r (key k))) [
-  | inl e ↦ rw (turn_eq (key k) r, e) (row_begins l ls o f t p)
-  | inr e ↦ rw (turn_eq (key k) r, e) refl
-]
-
 keys_begin : (ks : KeyTexts) (o : Origin) (f : Origins) (r : Step) (q : Path)
     → row_origins ks o f (r ∷ q) ≡ by_keys (steps_of ks) o f (r ∷ q)
 keys_begin [] o f r q = refl
-keys_begin (k ∷ ks) o f r q = row_begins k ks o f r q
+keys_begin (k ∷ l ∷ ls) o f r (t ∷ p) = grind (arith, turn_eq (key k) r, keys_begin (l ∷ ls) o f t p)
+keys_begin (k ∷ ks) o f r q = grind (arith, turn_eq (key k) r)
 
 -- two paths that begin a third overlap, and so do two of which one goes on from a third that the other begins
 pub both_begin : (p q x : Path) → begins p x ≡ true → begins q x ≡ true → overlap p q ≡ true
 both_begin [] q x a b = refl
 both_begin (s ∷ p) [] x a b = or_right (begins (s ∷ p) []) true refl
 both_begin (s ∷ p) (t ∷ q) [] a b = absurd (false≢true a)
-both_begin (s ∷ p) (t ∷ q) (u ∷ x) a b =
-    let left = and_parts (step_eq s u) (begins p x) a in
-    let right = and_parts (step_eq t u) (begins q x) b in
-    let is : s ≡ u = step_is s u left.0 in
-    let was : t ≡ u = step_is t u right.0 in
-    let same : step_eq s t ≡ true = ap (λ s. step_eq s t) is ∙ ap (step_eq u) was ∙ sym (ap (λ t. step_eq t u) was)
-    ∙ right.0 in
-    let back : step_eq t s ≡ true = turn_eq t s ∙ same in
-    rw (same, back) (both_begin p q x left.1 right.1)
+both_begin (s ∷ p) (t ∷ q) (u ∷ x) a b = grind (arith, step_is s u, step_is t u, step_same u, both_begin p q x)
 
 pub goes_on : (p x q : Path) → begins p x ≡ true → begins x q ≡ true → begins p q ≡ true
 goes_on [] x q a b = refl
 goes_on (s ∷ p) [] q a b = absurd (false≢true a)
 goes_on (s ∷ p) (t ∷ x) [] a b = absurd (false≢true b)
-goes_on (s ∷ p) (t ∷ x) (u ∷ q) a b =
-    let left = and_parts (step_eq s t) (begins p x) a in
-    let right = and_parts (step_eq t u) (begins x q) b in
-    let first : step_eq s u ≡ true = ap (λ s. step_eq s u) (step_is s t left.0) ∙ right.0 in
-    rw first (goes_on p x q left.1 right.1)
+goes_on (s ∷ p) (t ∷ x) (u ∷ q) a b = grind (arith, step_is s t, goes_on p x q)
 
 -- what the one begins, the other does not, where they do not overlap
 pub neither_begins : (p q x : Path) → begins p x ≡ true → overlap p q ≡ false
     → (begins q x ≡ false) × (begins x q ≡ false)
-neither_begins p q x here apart = (
-  false_from_ne_true (begins q x) (λ e. false≢true (sym apart ∙ both_begin p q x here e)),
-  false_from_ne_true (begins x q)
-      (λ e. false≢true (sym apart ∙ or_left (begins p q) (begins q p) (goes_on p x q here e))),
-)
+neither_begins p q x here apart = (grind (arith, both_begin p q x here), grind (arith, goes_on p x q here))
 
 -- below the value of a row no later row brings anything
 none_later : (s : ℕ) (steps : Path) (rows : Rows) (r : Step) (q : Path) → begins steps (r ∷ q) ≡ true
     → any_overlaps steps rows ≡ false → rows_origins s rows (r ∷ q) ≡ None
 none_later s steps no_rows r q here apart = refl
 none_later s steps (row ks at v rows) r q here apart =
-    let both = or_parts (overlap steps (steps_of (texts ks))) (any_overlaps steps rows) apart in
-    let other = neither_begins steps (steps_of (texts ks)) (r ∷ q) here both.0 in
-    let none : row_origins (texts ks) (table_origin false at s) (value_origins s at v) (r ∷ q) ≡ None =
-    keys_begin (texts ks) (table_origin false at s) (value_origins s at v) r q ∙ rw (other.0, other.1) refl in
-    ap (λ o. option_or o (rows_origins s rows (r ∷ q))) none ∙ none_later s steps rows r q here both.1
+    grind (arith, keys_begin (texts ks) (table_origin false at s) (value_origins s at v) r q,
+    neither_begins steps (steps_of (texts ks)) (r ∷ q) here, none_later s steps rows r q here)
 
 -- one of three: below the value, a table on the way to it, or in a later row
 chosen : (a b : Bool) (m n : Option Node) (o p : Option Origin) (d : Node) (e : Origin)
     → Same m o → Same (Some d) (Some e) → Same n p → (a ≡ true → p ≡ None)
     → Same (if a then m else if b then Some d else n) (option_or (if a then o else if b then Some e else None) p)
-chosen true b m n o p d e value table later none = value ∙ ap (option_map of_origin)
-    (sym (ap (option_or o) (none refl) ∙ or_none o))
-chosen false true m n o p d e value table later none = table
-chosen false false m n o p d e value table later none = later
+chosen a b m n o p d e value table later none = grind (arith, or_none o)
 
 -- rows with keys bring nothing to numbers
 no_numbers : (s : ℕ) (rows : Rows) (n : ℕ) (p : Path) → keyed_within rows ≡ true
     → rows_origins s rows (number n ∷ p) ≡ None
 no_numbers s no_rows n p keyed = refl
 no_numbers s (row [] at v rows) n p keyed = absurd (false≢true keyed)
-no_numbers s (row (k ∷ []) at v rows) n p keyed =
-    no_numbers s rows n p (and_parts (value_keyed v) (keyed_within rows) keyed).1
-no_numbers s (row (k ∷ l ∷ ks) at v rows) n p keyed =
-    no_numbers s rows n p (and_parts (value_keyed v) (keyed_within rows) keyed).1
+no_numbers s (row (k ∷ []) at v rows) n p keyed = no_numbers s rows n p (grind arith)
+no_numbers s (row (k ∷ l ∷ ks) at v rows) n p keyed = no_numbers s rows n p (grind arith)
 
 mutual
   value_same : (keys : KeyTexts) (outer : Option ℕ) (s at : ℕ) (v : Raw) (p : Path) → value_clashes v ≡ false
@@ -158,22 +120,15 @@ mutual
       let value_in = and_parts (has_key ks) (value_keyed v) keys_in.0 in
       let split = or_parts (any_overlaps steps rows || value_clashes v) (rows_clash rows) apart in
       let first = or_parts (any_overlaps steps rows) (value_clashes v) split.0 in
-      chosen (begins steps (r ∷ q)) (begins (r ∷ q) steps)
-      (node_in keys (holder_in outer all (front steps)) at v (drop (length steps) (r ∷ q)))
-      (node_by keys outer all rows (r ∷ q)) (value_origins s at v (drop (length steps) (r ∷ q)))
-      (rows_origins s rows (r ∷ q)) (dotted_node keys (holder_in outer all (front (r ∷ q))) at)
-      (table_origin false at s)
+      rw (keys_begin (texts ks) (table_origin false at s) (value_origins s at v) r q)
+      (chosen (begins steps (r ∷ q)) (begins (r ∷ q) steps) _ _ _ _ _ _
       (value_same keys (holder_in outer all (front steps)) s at v (drop (length steps) (r ∷ q)) first.1 value_in.1) refl
-      (by_same keys outer s all rows r q split.1 keys_in.1)
-      (λ here. none_later s steps rows r q here first.0)
-      ∙ ap (λ o. option_map of_origin (option_or o (rows_origins s rows (r ∷ q))))
-      (sym (keys_begin (texts ks) (table_origin false at s) (value_origins s at v) r q))
+      (by_same keys outer s all rows r q split.1 keys_in.1) (λ here. none_later s steps rows r q here first.0))
 
 pub begins_front : (p r q : Path) → begins (p ++ r) q ≡ true → begins p q ≡ true
 begins_front [] r q e = refl
 begins_front (s ∷ p) r [] e = absurd (false≢true e)
-begins_front (s ∷ p) r (t ∷ q) e =
-    let both = and_parts (step_eq s t) (begins (p ++ r) q) e in rw both.0 (begins_front p r q both.1)
+begins_front (s ∷ p) r (t ∷ q) e = grind (arith, begins_front p r q)
 
 -- a path that goes on from another one
 pub begins_on : (w steps x : Path) → begins (w ++ steps) (w ++ x) ≡ begins steps x
@@ -195,55 +150,31 @@ module _ (ls : List Located) (last : Option ℕ) (l : Located) (n : ℕ) where
   rows_same no_rows r q apart keyed = refl
   rows_same (row ks at v rows) r q apart keyed =
       let steps = steps_of (texts ks) in
-      let p = l.path ++ r ∷ q in
       let path = l.path ++ steps in
       let key_path = texts l.section.header ++ first_key ks in
       let split = or_parts (any_overlaps steps rows || value_clashes v) (rows_clash rows) apart in
       let first = or_parts (any_overlaps steps rows) (value_clashes v) split.0 in
       let keys_in = and_parts (has_key ks && value_keyed v) (keyed_within rows) keyed in
       let value_in = and_parts (has_key ks) (value_keyed v) keys_in.0 in
-      let dropped = drop_on l.path steps (r ∷ q) in
-      chosen (begins path p) (begins p path)
-      (node_in key_path (holder ls last (front path)) at v (drop (length path) p))
-      (node_of_rows ls last l rows p) (value_origins n at v (drop (length steps) (r ∷ q)))
-      (rows_origins n rows (r ∷ q)) (dotted_node key_path (holder ls last (front p)) at)
-      (table_origin false at n)
-      (ap (λ x. option_map of_node (node_in key_path (holder ls last (front path)) at v x)) dropped
-      ∙ value_same key_path (holder ls last (front path)) n at v (drop (length steps) (r ∷ q)) first.1 value_in.1)
-      refl
-      (rows_same rows r q split.1 keys_in.1)
-      (λ here. none_later n steps rows r q (sym (begins_on l.path steps (r ∷ q)) ∙ here) first.0)
-      ∙ ap (λ b. option_map of_origin (option_or (if b then value_origins n at v (drop (length steps) (r ∷ q))
-      else if begins p path then Some (table_origin false at n) else None) (rows_origins n rows (r ∷ q))))
-      (begins_on l.path steps (r ∷ q))
-      ∙ ap (λ b. option_map of_origin (option_or (if begins steps (r ∷ q)
-      then value_origins n at v (drop (length steps) (r ∷ q))
-      else if b then Some (table_origin false at n) else None) (rows_origins n rows (r ∷ q))))
-      (begins_on l.path (r ∷ q) steps)
-      ∙ ap (λ o. option_map of_origin (option_or o (rows_origins n rows (r ∷ q))))
-      (sym (keys_begin (texts ks) (table_origin false at n) (value_origins n at v) r q))
+      rw (keys_begin (texts ks) (table_origin false at n) (value_origins n at v) r q, begins_on l.path steps (r ∷ q),
+      begins_on l.path (r ∷ q) steps, drop_on l.path steps (r ∷ q))
+      (chosen (begins steps (r ∷ q)) (begins (r ∷ q) steps) _ _ _ _ _ _
+      (value_same key_path (holder ls last (front path)) n at v (drop (length steps) (r ∷ q)) first.1 value_in.1) refl
+      (rows_same rows r q split.1 keys_in.1) (λ here. none_later n steps rows r q here first.0))
 
   -- and elsewhere
   apart_before : (w steps p : Path) → begins w p ≡ false → begins (w ++ steps) p ≡ false
-  apart_before w steps p not =
-      false_from_ne_true (begins (w ++ steps) p) (λ e. false≢true (sym not ∙ begins_front w steps p e))
+  apart_before w steps p not = grind (arith, begins_front w steps p)
 
   apart_after : (w steps p : Path) → begins w p ≡ false → begins p w ≡ false → begins p (w ++ steps) ≡ false
   apart_after [] steps p not back = absurd (false≢true (sym not))
   apart_after (s ∷ w) steps [] not back = absurd (false≢true (sym back))
-  apart_after (s ∷ w) steps (t ∷ p) not back = elim (cases_Bool (step_eq t s)) [
-    | inl e ↦ rw e (apart_after w steps p (sym (ap (λ b. b && begins w p) (turn_eq s t ∙ e)) ∙ not)
-        (sym (ap (λ b. b && begins p w) e) ∙ back))
-    | inr e ↦ rw e refl
-  ]
+  apart_after (s ∷ w) steps (t ∷ p) not back = grind (arith, turn_eq s t, apart_after w steps p)
 
   along_apart : (w p : Path) (f : Origins) → begins w p ≡ false → along w f p ≡ None
   along_apart [] p f not = absurd (false≢true (sym not))
   along_apart (s ∷ w) [] f not = refl
-  along_apart (s ∷ w) (t ∷ p) f not = elim (cases_Bool (step_eq t s)) [
-    | inl e ↦ rw e (along_apart w p f (sym (ap (λ b. b && begins w p) (turn_eq s t ∙ e)) ∙ not))
-    | inr e ↦ rw e refl
-  ]
+  along_apart (s ∷ w) (t ∷ p) f not = grind (arith, turn_eq s t, along_apart w p f)
 
   pub rows_apart : (rows : Rows) (p : Path) → begins l.path p ≡ false → begins p l.path ≡ false
       → node_of_rows ls last l rows p ≡ None
@@ -252,10 +183,6 @@ module _ (ls : List Located) (last : Option ℕ) (l : Located) (n : ℕ) where
       rw (apart_before l.path (steps_of (texts ks)) p not, apart_after l.path (steps_of (texts ks)) p not back)
       (rows_apart rows p not back)
 
-  and_none : (b : Bool) → (b && false) ≡ false
-  and_none true = refl
-  and_none false = refl
-
   -- a path goes on from the other, or is apart from it
   pub goes_from : (w p : Path) → begins p w ≡ false
       → ((r : Step) × (q : Path) × (p ≡ w ++ r ∷ q)) ⊎ (begins w p ≡ false)
@@ -263,9 +190,9 @@ module _ (ls : List Located) (last : Option ℕ) (l : Located) (n : ℕ) where
   goes_from [] (r ∷ q) back = inl (r, q, refl)
   goes_from (s ∷ w) [] back = inr refl
   goes_from (s ∷ w) (t ∷ p) back = elim (cases_Bool (step_eq t s)) [
-    | inl e ↦ elim (goes_from w p (sym (ap (λ b. b && begins p w) e) ∙ back)) [
-      | inl x ↦ inl (x.0, x.1, ap (λ t. t ∷ p) (step_is t s e) ∙ ap (λ p. s ∷ p) x.2)
-      | inr other ↦ inr (ap (λ b. step_eq s t && b) other ∙ and_none (step_eq s t))
+    | inl e ↦ elim (goes_from w p (rw e at back)) [
+      | inl x ↦ inl (x.0, x.1, cc (step_is t s e, x.2))
+      | inr other ↦ inr (and_right (step_eq s t) (begins w p) other)
     ]
     | inr e ↦ inr (rw (turn_eq s t, e) refl)
   ]
@@ -274,21 +201,13 @@ module _ (ls : List Located) (last : Option ℕ) (l : Located) (n : ℕ) where
       → keyed_within l.section.rows ≡ true
       → Same (node_of_rows ls last l l.section.rows p) (along l.path (rows_origins n l.section.rows) p)
   section_same p back apart keyed = elim (goes_from l.path p back) [
-    | inl x ↦
-        ap (λ p. option_map of_node (node_of_rows ls last l l.section.rows p)) x.2
-        ∙ rows_same l.section.rows x.0 x.1 apart keyed
-        ∙ ap (option_map of_origin) (sym (ap (along l.path (rows_origins n l.section.rows)) x.2
-        ∙ along_on l.path (x.0 ∷ x.1) (rows_origins n l.section.rows)))
-    | inr not ↦
-        ap (option_map of_node) (rows_apart l.section.rows p not back)
-        ∙ ap (option_map of_origin) (sym (along_apart l.path p (rows_origins n l.section.rows) not))
+    | inl x ↦ rw (x.2, along_on l.path (x.0 ∷ x.1) (rows_origins n l.section.rows))
+        (rows_same l.section.rows x.0 x.1 apart keyed)
+    | inr not ↦ rw (rows_apart l.section.rows p not back, along_apart l.path p (rows_origins n l.section.rows) not) refl
   ]
 
 or_same : (m n : Option Node) (o p : Option Origin) → Same m o → Same n p → Same (option_or m n) (option_or o p)
-or_same None n None p first later = later
-or_same None n (Some o) p first later = absurd (cc)
-or_same (Some m) n None p first later = absurd (cc)
-or_same (Some m) n (Some o) p first later = first
+or_same m n o p first later = grind arith
 
 pub sections_same : (ls : List Located) (last : Option ℕ) (n : ℕ) (later : List Located) (p : Path)
     → list_any (λ l. begins p l.path) later ≡ false → list_any (λ l. rows_clash l.section.rows) later ≡ false

@@ -5,8 +5,7 @@ use Rattle.std.proofs.lemmas.Grind.{reverse_onto}
 use Rattle.basic_toml_grammar.specs.Sections.{KeyTexts, texts, Section}
 use Rattle.basic_toml_grammar.specs.Steps.{key, number, Path}
 use Rattle.basic_toml_grammar.specs.IndexedPath.{latest, located_after}
-use Rattle.basic_toml_grammar.specs.Placed.{step_into, path_of, elements_at, target_from, element_from}
-use Rattle.basic_toml_grammar.specs.Placed.{placed_after}
+use Rattle.basic_toml_grammar.specs.Placed.{step_into, path_of, elements_at, target_from, element_from, placed_after}
 use Rattle.basic_toml_grammar.specs.Marks.{Mark}
 use Rattle.basic_toml_grammar.specs.Entering.{element_count, count_at, enter_all, all_keyed}
 use Rattle.basic_toml_grammar.specs.Trie.{Trie, nothing, standing, below, count, put_sections}
@@ -37,37 +36,24 @@ ways_are : (st : List Mark) (a : Bool) (cut : Path) (keys : KeyTexts)
     → way a keys (descend cut (trie_of st)) ≡ path_from (λ p. count_at st p) a cut keys
 ways_are st a cut [] = refl
 ways_are st true cut (k ∷ []) = ap (λ n. key k ∷ number n ∷ []) (counted st cut k)
-ways_are st false cut (k ∷ []) = ap (λ n. key k ∷ way_on (λ t. []) n here) (counted st cut k)
-    ∙ go (count_at st (cut ++ key k ∷ []))
-  where
-    here : Trie
-    here = below (key k) (descend cut (trie_of st))
-
-    go : (n : ℕ) → key k ∷ way_on (λ t. []) n here ≡ (key k ∷ latest n) ++ []
-    go zero = refl
-    go (suc n) = refl
+ways_are st false cut (k ∷ []) =
+    rw (counted st cut k) (elim (count_at st (cut ++ key k ∷ [])) as (λ n.
+    key k ∷ way_on (λ t. []) n (below (key k) (descend cut (trie_of st))) ≡ (key k ∷ latest n) ++ []) [
+      zero ↦ refl
+      | suc n ↦ refl
+    ])
 ways_are st a cut (k ∷ l ∷ keys) =
-    ap (λ n. key k ∷ way_on (λ t. way a (l ∷ keys) t) n here) (counted st cut k)
-    ∙ go (λ c. ways_are st a c (l ∷ keys)) (count_at st (cut ++ key k ∷ []))
-  where
-    here : Trie
-    here = below (key k) (descend cut (trie_of st))
-
-    rest : Path → Path
-    rest c = target_from (λ p. count_at st p) a c (l ∷ keys)
-
-    last : Path → Path
-    last c = step_into (element_from (λ p. count_at st p) a c (l ∷ keys))
-
-    go : ((c : Path) → way a (l ∷ keys) (descend c (trie_of st)) ≡ rest c ++ last c) → (n : ℕ)
-        → key k ∷ way_on (λ t. way a (l ∷ keys) t) n here
-        ≡ ((key k ∷ latest n) ++ rest (cut ++ key k ∷ latest n)) ++ last (cut ++ key k ∷ latest n)
-    go ih zero = ap (λ w. key k ∷ w)
-        (ap (λ t. way a (l ∷ keys) t) (sym (descend_on cut (key k ∷ []) (trie_of st))) ∙
-        ih (cut ++ key k ∷ []))
-    go ih (suc n) = ap (λ w. key k ∷ number n ∷ w)
-        (ap (λ t. way a (l ∷ keys) t) (sym (descend_on cut (key k ∷ number n ∷ []) (trie_of st))) ∙
-        ih (cut ++ key k ∷ number n ∷ []))
+    let here : Trie = below (key k) (descend cut (trie_of st)) in
+    let on : (q : Path) → way a (l ∷ keys) (descend q (descend cut (trie_of st)))
+    ≡ path_from (λ p. count_at st p) a (cut ++ q) (l ∷ keys) =
+    λ q. rw (← descend_on cut q (trie_of st)) (ways_are st a (cut ++ q) (l ∷ keys)) in
+    rw (counted st cut k) (elim (count_at st (cut ++ key k ∷ [])) as (λ n.
+    key k ∷ way_on (λ t. way a (l ∷ keys) t) n here
+    ≡ ((key k ∷ latest n) ++ target_from (λ p. count_at st p) a (cut ++ key k ∷ latest n) (l ∷ keys))
+    ++ step_into (element_from (λ p. count_at st p) a (cut ++ key k ∷ latest n) (l ∷ keys))) [
+      zero ↦ ap (λ w. key k ∷ w) (on (key k ∷ []))
+      | suc n ↦ ap (λ w. key k ∷ number n ∷ w) (on (key k ∷ number n ∷ []))
+    ])
 
 onto_all : (ss before : List Section) → onto ss before ≡ reverse ss ++ before
 onto_all [] before = refl
@@ -94,7 +80,4 @@ pub way_is : (earlier : List Section) (s : Section) (t : Trie) → all_keyed ear
     → way s.is_array (texts s.header) t ≡ (located_after (reverse earlier) s).path
 way_is earlier s t keyed (inl e) = put_way earlier s t keyed e
 way_is earlier s t keyed (inr e) =
-    ap (λ t. way s.is_array (texts s.header) t) e.1
-    ∙ way_fresh s.is_array (texts s.header)
-    ∙ put_way [] s nothing refl refl
-    ∙ ap (λ ss. (located_after (reverse ss) s).path) (sym e.0)
+    rw (e.0, e.1) (way_fresh s.is_array (texts s.header) ∙ put_way [] s nothing refl refl)

@@ -1,10 +1,8 @@
-use Rattle.std.proofs.Common.{ap, sym, ◌∙◌, map, length, refl}
+use Rattle.std.proofs.Common.{ap, sym, ◌∙◌, length, refl}
 use Rattle.std.specs.Str.{bytes_eq}
 use Rattle.std.proofs.lemmas.List.{take_all}
 use Rattle.std.proofs.lemmas.Slice.Eq.{bytes_eq-Decides}
 use Rattle.std.proofs.lemmas.Option.{slice_get_read}
-use Rattle.basic_toml_index.specs.Keys.{is_among}
-use Rattle.basic_toml_plain.specs.Plain.{key_of}
 use Rattle.basic_toml_tree.proofs.Nodes.RowNodes.{none_passed}
 use Rattle.basic_toml_tree.proofs.node.row_at.Goals as goal
 
@@ -24,5 +22,4 @@ loop-row-preserved c =
 
 pub returns : goal.returns
 returns c =
-    ap (λ rs. is_among (map key_of rs) c.args.key.now)
-    (sym (take_all c.loop-row.row-index c.args.rows.now c.loop-row-test.false)) ∙ c.loop-row.invariant
+    rw (take_all c.loop-row.row-index c.args.rows.now c.loop-row-test.false) at c.loop-row.invariant

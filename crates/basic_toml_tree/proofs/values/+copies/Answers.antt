@@ -7,40 +7,32 @@ use Rattle.basic_toml_plain.specs.Plain.{element_data, rows_data}
 use Rattle.basic_toml_plain.specs.PlainTables.{tables_in}
 use Rattle.basic_toml_plain.specs.Values.{value_pair, section_data}
 use Rattle.basic_toml_plain.proofs.DataParts.{items_size-at, items_size-front, items_size-last, members_size-at}
-use Rattle.basic_toml_plain.proofs.DataParts.{mapped_more, array_seen, sections_seen, table_seen, entries_seen}
+use Rattle.basic_toml_plain.proofs.DataParts.{mapped_more, sections_seen, table_seen, entries_seen}
 use Rattle.basic_toml_tree.specs.Data.{data_of, child_data, table_data, child_pair}
-use Rattle.basic_toml_tree.proofs.ItemData.{child_item, plain_elements, rows_item, sections_item, tables_data}
-use Rattle.basic_toml_tree.proofs.ItemData.{table_of_pairs, keys_copied, refused_held}
-use Rattle.basic_toml_tree.proofs.ItemData.{tables_whole}
+use Rattle.basic_toml_tree.proofs.ItemData.{child_item, plain_seen, sections_item, tables_data}
+use Rattle.basic_toml_tree.proofs.ItemData.{table_of_pairs, keys_copied, refused_held, tables_seen}
 use Rattle.basic_toml_tree.proofs.SectionData.{section_rows}
 use Rattle.basic_toml_tree.proofs.values.+copies.Goals as goal
 
 pub elements_of-value_of-requires : goal.elements_of-value_of-requires
 elements_of-value_of-requires t c =
-    let smaller = items_size-at child_data c.args.children.now c.loop-child.child-index c.child-item.result
-    c.loop-child-test.true c.child-item.is in
-    let same = child_item c.child-item.result in
-    (omega (arith, ap data_size same), tt)
+    let smaller = items_size-at child_data _ _ _ c.loop-child-test.true c.child-item.is in
+    (omega (arith, smaller, ap data_size (child_item c.child-item.result)), tt)
 
 pub elements_of-loop-child-preserved : goal.elements_of-loop-child-preserved
 elements_of-loop-child-preserved t c =
-    mapped_more view child_data c.loop-child.elements.items c.push.new.self.items c.args.children.now
-    c.loop-child.child-index c.in_ok-value_of.field-0 c.child-item.result c.loop-child-test.true c.child-item.is
-    c.in_ok-push.ensures.items c.loop-child.invariant
-    (c.in_ok-value_of.ensures ∙ sym (child_item c.child-item.result))
+    mapped_more view child_data _ _ _ _ _ _ c.loop-child-test.true c.child-item.is c.in_ok-push.ensures.items
+    c.loop-child.invariant (c.in_ok-value_of.ensures ∙ sym (child_item c.child-item.result))
 
 pub entries_of-value_of-requires : goal.entries_of-value_of-requires
 entries_of-value_of-requires t c =
-    let smaller = members_size-at child_pair c.args.pairs.now c.loop-pair.pair-index c.pair-item.result
-    c.loop-pair-test.true c.pair-item.is in
-    let same = child_item c.pair-item.result.value in
-    (omega (arith, ap data_size same), tt)
+    let smaller = members_size-at child_pair _ _ _ c.loop-pair-test.true c.pair-item.is in
+    (omega (arith, smaller, ap data_size (child_item c.pair-item.result.value)), tt)
 
 pub entries_of-loop-pair-preserved : goal.entries_of-loop-pair-preserved
 entries_of-loop-pair-preserved t c =
-    mapped_more value_pair child_pair c.loop-pair.copies.items c.push.new.self.items c.args.pairs.now
-    c.loop-pair.pair-index (record { key = c.in_ok-key.key; value = c.in_ok-value.value }) c.pair-item.result
-    c.loop-pair-test.true c.pair-item.is c.in_ok-push.ensures.items c.loop-pair.invariant
+    mapped_more value_pair child_pair _ _ _ _ _ _ c.loop-pair-test.true c.pair-item.is c.in_ok-push.ensures.items
+    c.loop-pair.invariant
     (rw (c.in_ok-key.ensures.cases, c.in_ok-value.ensures, child_item c.pair-item.result.value) refl)
 
 pub table_of-entries_of-requires : goal.table_of-entries_of-requires
@@ -50,8 +42,9 @@ table_of-entries_of-requires t c =
 
 pub table_of-from_parts-requires : goal.table_of-from_parts-requires
 table_of-from_parts-requires t c =
-    let same = keys_copied c.in_ok-copies.copies.items c.entries.result.now _ c.in_ok-copies.ensures c.entries.ensures.pairs in
-    c.in_ok-index.ensures (texts_of c.in_ok-copies.copies.items) (rw same at c.index.ensures)
+    let copies = c.in_ok-copies in
+    let same = keys_copied copies.copies.items c.entries.result.now _ copies.ensures c.entries.ensures.pairs in
+    c.in_ok-index.ensures (texts_of copies.copies.items) (rw same at c.index.ensures)
 
 pub table_of-returns-in_err-copies-clause-memory : goal.table_of-returns-in_err-copies-clause-memory
 table_of-returns-in_err-copies-clause-memory t c =
@@ -70,16 +63,13 @@ table_of-returns-clause-table t c =
 
 pub tables_of-table_of-requires : goal.tables_of-table_of-requires
 tables_of-table_of-requires t c =
-    let smaller = items_size-at table_data c.args.tables.now c.loop-table.table-index c.table-item.result
-    c.loop-table-test.true c.table-item.is in
-    (omega arith, tt)
+    let smaller = items_size-at table_data _ _ _ c.loop-table-test.true c.table-item.is in
+    (omega (arith, smaller), tt)
 
 pub tables_of-loop-table-preserved : goal.tables_of-loop-table-preserved
 tables_of-loop-table-preserved t c =
-    mapped_more view table_data c.loop-table.elements.items c.push.new.self.items c.args.tables.now
-    c.loop-table.table-index _ c.table-item.result c.loop-table-test.true c.table-item.is
-    c.in_ok-push.ensures.items c.loop-table.invariant
-    (table_seen _ ∙ c.in_ok-table_of.ensures.table)
+    mapped_more view table_data _ _ _ _ _ _ c.loop-table-test.true c.table-item.is c.in_ok-push.ensures.items
+    c.loop-table.invariant (table_seen _ ∙ c.in_ok-table_of.ensures.table)
 
 pub value_of-tables_of-requires : goal.value_of-tables_of-requires
 value_of-tables_of-requires t c =
@@ -100,26 +90,17 @@ value_of-table_of-requires-in-Tables t c =
 pub value_of-returns-in_ok-push-in-Tables : goal.value_of-returns-in_ok-push-in-Tables
 value_of-returns-in_ok-push-in-Tables t c =
     let tables = c.in-Tables.tables in
-    array_seen c.push.new.self
-    ∙ ap (λ ds. Data.array (items_of ds)) (tables_whole c.in_ok-elements-in-Tables.elements.items c.push.new.self.items
-    tables.value.0.items _ tables.value.1 c.in_ok-push-in-Tables.ensures.items
+    tables_seen c.in_ok-elements-in-Tables.elements c.push.new.self _ tables c.in_ok-push-in-Tables.ensures.items
     (c.in_ok-elements-in-Tables.ensures ∙ ap (map table_data) c.as_slice-in-Tables.ensures.value
     ∙ ap (λ ts. map table_data ts.0.items) c.deref-in-Tables.ensures)
-    (table_seen _ ∙ c.in_ok-table_of-in-Tables.ensures.table ∙ ap (λ ts. table_data ts.1) c.deref-in-Tables-2.ensures))
-    ∙ sym (ap data_of c.in-Tables.is ∙ tables_data tables)
+    (table_seen _ ∙ c.in_ok-table_of-in-Tables.ensures.table ∙ ap (λ ts. table_data ts.1) c.deref-in-Tables-2.ensures)
+    ∙ sym (ap data_of c.in-Tables.is)
 
 pub value_of-returns-in_ok-plain_values-in-Plain : goal.value_of-returns-in_ok-plain_values-in-Plain
 value_of-returns-in_ok-plain_values-in-Plain t c =
-    array_seen c.in_ok-plain_values-in-Plain.field-0
-    ∙ ap (λ ds. Data.array (items_of ds)) (c.in_ok-plain_values-in-Plain.ensures
-    ∙ ap (map element_data) c.elements.ensures.elements)
-    ∙ sym (ap data_of c.in-Plain.is ∙ plain_elements c.in-Plain.array)
-
-pub value_of-returns-in_ok-plain_table-in-Rows : goal.value_of-returns-in_ok-plain_table-in-Rows
-value_of-returns-in_ok-plain_table-in-Rows t c =
-    table_seen c.in_ok-plain_table-in-Rows.field-0
-    ∙ c.in_ok-plain_table-in-Rows.ensures.table ∙ ap rows_data c.rows.ensures.rows
-    ∙ sym (ap data_of c.in-Rows.is ∙ rows_item c.in-Rows.table)
+    plain_seen c.in_ok-plain_values-in-Plain.field-0 c.in-Plain.array
+    (c.in_ok-plain_values-in-Plain.ensures ∙ ap (map element_data) c.elements.ensures.elements)
+    ∙ sym (ap data_of c.in-Plain.is)
 
 pub value_of-returns-in_ok-plain_table-in-Section : goal.value_of-returns-in_ok-plain_table-in-Section
 value_of-returns-in_ok-plain_table-in-Section t c =

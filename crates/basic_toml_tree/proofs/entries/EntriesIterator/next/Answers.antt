@@ -1,16 +1,15 @@
-use Rattle.std.proofs.Common.{◌≡◌, [], Some, arith, ap, length, rules, sym, ◌∙◌, refl, subst}
-use Rattle.std.specs.Prelude.{slice_get}
-use Rattle.std.proofs.lemmas.List.{length-map, drop_all}
+use Rattle.std.proofs.Common.{◌≡◌, arith, length, rules, refl}
+use Rattle.std.proofs.lemmas.List.{length-map}
 use Rattle.std.proofs.lemmas.Option.{slice_get_read}
 use Rattle.basic_toml_grow.specs.declared.item.Table.{out-Table}
 use Rattle.basic_toml_tree.specs.Data.{child_data, table_data}
-use Rattle.basic_toml_tree.specs.Nodes.{node_data, fields_data, entries_in, entries_left}
-use Rattle.basic_toml_tree.specs.Stands.{GivesEntry, HoldsFields, HoldsTable}
+use Rattle.basic_toml_tree.specs.Nodes.{node_data}
+use Rattle.basic_toml_tree.specs.Stands.{HoldsTable}
 use Rattle.basic_toml_tree.proofs.Nodes.NodesInOrder.{pair_read, table_entries}
 use Rattle.basic_toml_tree.proofs.Nodes.NodesStand.{entry_stands}
 use Rattle.basic_toml_tree.proofs.Nodes.OuterStands.{keeps_below}
 use Rattle.basic_toml_tree.proofs.Nodes.KeysTold.{key_keeps}
-use Rattle.basic_toml_tree.proofs.Nodes.RowNodes.{plain_at, row_node_data, row_stands, no_row_left}
+use Rattle.basic_toml_tree.proofs.Nodes.RowNodes.{plain_at, row_node_data, row_stands, none_left, no_row_left}
 use Rattle.basic_toml_tree.proofs.Nodes.RowNodes.{gives_row, gives_next}
 use Rattle.basic_toml_tree.proofs.Nodes.SectionNodes.{section_row_stands}
 use Rattle.basic_toml_tree.proofs.entries.EntriesIterator.next.Goals as goal
@@ -18,14 +17,8 @@ use Rattle.basic_toml_tree.proofs.entries.EntriesIterator.next.Goals as goal
 pub returns-then-at-len-clause-steps : goal.returns-then-at-len-clause-steps
 returns-then-at-len-clause-steps c =
     let here : node_data c.args.self.now.table ≡ table_data c.in-Table.table.now = search (rules) in
-    let count : c.len.result ≡ length (out-Table c.in-Table.table.now).entries = c.len.ensures in
-    let long : length (entries_in (node_data c.args.self.now.table)) ≡ c.len.result =
-    ap (λ d. length (entries_in d)) here ∙ ap length (table_entries c.in-Table.table.now)
-    ∙ length-map (out-Table c.in-Table.table.now).entries (λ p. (p.0, child_data p.1)) ∙ sym count in
-    let none : entries_left c.args.self.now ≡ [] =
-    drop_all c.args.self.now.at (entries_in (node_data c.args.self.now.table))
-    (omega (arith, long, c.if-at-len.true)) in
-    ((none, none), tt, refl)
+    none_left c.args.self.now (rw (here, table_entries c.in-Table.table.now) (simp length-map
+    (omega (arith, c.len.ensures, c.if-at-len.true))))
 
 pub returns-else-at-len : goal.returns-else-at-len
 returns-else-at-len c =
@@ -37,10 +30,8 @@ returns-else-at-len c =
     let holds : HoldsTable c.args.self.now.table.spot c.in-Table.table.now = search (rules) in
     let whole : node_data c.args.self.now.table ≡ table_data c.in-Table.table.now = search (rules) in
     let given = gives_next c.args.self.now (c.key-key.result, node)
-    (ap (λ d. slice_get (entries_in d) c.args.self.now.at) whole
-    ∙ ap (λ l. slice_get l c.args.self.now.at) (table_entries table)
-    ∙ pair_read child_data (out-Table table).entries c.args.self.now.at key child c.key-key.ensures c.value.ensures
-    ∙ ap (λ d. Some (key, d)) (sym c.below.ensures.«data»))
+    (rw (whole, table_entries table, c.below.ensures.«data») (pair_read child_data (out-Table table).entries
+    c.args.self.now.at key child c.key-key.ensures c.value.ensures))
     (entry_stands from node table c.args.self.now.at key child holds c.entries-pairs.ensures.distinct c.key-key.ensures
     c.value.ensures whole c.below.ensures.«data» c.below.ensures.below c.below.ensures.comes
     (keeps_below from node c.below.ensures.outer)
@@ -51,58 +42,52 @@ returns-else-at-len c =
 -- the rows of an inline table
 pub plain_row-requires : goal.plain_row-requires
 plain_row-requires c =
-    let held = subst (HoldsFields c.args.self.now.table.spot) c.in-Rows.is c.in_ok-table.ensures.fields in
+    let table = rw c.in-Rows.is at c.in_ok-table.ensures in
     let read = c.in_ok-row-in-Rows.ensures.lookup in
-    plain_at c.in-Rows.rows.now held.1 c.args.self.now.at c.in_ok-row-in-Rows.row.now read.3.0 read.1
+    plain_at c.in-Rows.rows.now table.fields.1 c.args.self.now.at c.in_ok-row-in-Rows.row.now read.3.0 read.1
 
 pub returns-in_err-row-in-Rows-clause-steps : goal.returns-in_err-row-in-Rows-clause-steps
 returns-in_err-row-in-Rows-clause-steps c =
-    let held = subst (HoldsFields c.args.self.now.table.spot) c.in-Rows.is c.in_ok-table.ensures.fields in
-    let here = c.in_ok-table.ensures.«data» ∙ ap fields_data c.in-Rows.is in
-    let none = no_row_left c.args.self.now c.in-Rows.rows.now here held.1 c.in_err-row-in-Rows.ensures.lookup.3 in
-    subst (λ result. GivesEntry c.args.self.now result c.args.self.now)
-    (sym c.from_residual-in_err-row-in-Rows.ensures) ((none, none), tt, refl)
+    let table = rw c.in-Rows.is at c.in_ok-table.ensures in
+    rw (c.from_residual-in_err-row-in-Rows.ensures) (no_row_left c.args.self.now c.in-Rows.rows.now table.«data»
+    table.fields.1 c.in_err-row-in-Rows.ensures.lookup.3)
 
 pub returns-in_ok-row-in-Rows : goal.returns-in_ok-row-in-Rows
 returns-in_ok-row-in-Rows c =
     let from = c.args.self.now.table in
     let rows = c.in-Rows.rows.now in
     let r = c.in_ok-row-in-Rows.row.now in
-    let held = subst (HoldsFields c.args.self.now.table.spot) c.in-Rows.is c.in_ok-table.ensures.fields in
-    let here = c.in_ok-table.ensures.«data» ∙ ap fields_data c.in-Rows.is in
+    let table = rw c.in-Rows.is at c.in_ok-table.ensures in
     let lookup = c.in_ok-row-in-Rows.ensures.lookup in
     let there = slice_get_read rows (length rows) c.args.self.now.at r refl lookup.3.0 lookup.1 in
-    let given = gives_row c.args.self.now rows here held.1 r c.as_str.result c.plain_row.result there
-    c.as_str.ensures.value (row_node_data from c.plain_row.result r c.plain_row.ensures)
-    (row_stands from c.plain_row.result rows held.0 held.1 c.args.self.now.at r there c.plain_row.ensures) in
+    let given = gives_row c.args.self.now rows table.«data» table.fields.1 r c.as_str.result c.plain_row.result there
+    c.as_str.ensures.value (row_node_data from c.plain_row.result r c.plain_row.ensures) (row_stands from
+    c.plain_row.result rows table.fields.0 table.fields.1 c.args.self.now.at r there c.plain_row.ensures) in
     record { steps = given.steps; goes = given.goes }
 
 -- the rows of a section
 pub section_row-requires : goal.section_row-requires
 section_row-requires c =
-    let held = subst (HoldsFields c.args.self.now.table.spot) c.in-Section.is c.in_ok-table.ensures.fields in
+    let table = rw c.in-Section.is at c.in_ok-table.ensures in
     let read = c.in_ok-row-in-Section.ensures.lookup in
-    plain_at c.in-Section.rows.now held.1 c.args.self.now.at c.in_ok-row-in-Section.row.now read.3.0 read.1
+    plain_at c.in-Section.rows.now table.fields.1 c.args.self.now.at c.in_ok-row-in-Section.row.now read.3.0 read.1
 
 pub returns-in_err-row-in-Section-clause-steps : goal.returns-in_err-row-in-Section-clause-steps
 returns-in_err-row-in-Section-clause-steps c =
-    let held = subst (HoldsFields c.args.self.now.table.spot) c.in-Section.is c.in_ok-table.ensures.fields in
-    let here = c.in_ok-table.ensures.«data» ∙ ap fields_data c.in-Section.is in
-    let none = no_row_left c.args.self.now c.in-Section.rows.now here held.1 c.in_err-row-in-Section.ensures.lookup.3 in
-    subst (λ result. GivesEntry c.args.self.now result c.args.self.now)
-    (sym c.from_residual-in_err-row-in-Section.ensures) ((none, none), tt, refl)
+    let table = rw c.in-Section.is at c.in_ok-table.ensures in
+    rw (c.from_residual-in_err-row-in-Section.ensures) (no_row_left c.args.self.now c.in-Section.rows.now table.«data»
+    table.fields.1 c.in_err-row-in-Section.ensures.lookup.3)
 
 pub returns-in_ok-row-in-Section : goal.returns-in_ok-row-in-Section
 returns-in_ok-row-in-Section c =
     let from = c.args.self.now.table in
     let rows = c.in-Section.rows.now in
     let r = c.in_ok-row-in-Section.row.now in
-    let held = subst (HoldsFields c.args.self.now.table.spot) c.in-Section.is c.in_ok-table.ensures.fields in
-    let here = c.in_ok-table.ensures.«data» ∙ ap fields_data c.in-Section.is in
+    let table = rw c.in-Section.is at c.in_ok-table.ensures in
     let lookup = c.in_ok-row-in-Section.ensures.lookup in
     let there = slice_get_read rows (length rows) c.args.self.now.at r refl lookup.3.0 lookup.1 in
-    let given = gives_row c.args.self.now rows here held.1 r c.as_str-in-Section.result c.section_row.result there
-    c.as_str-in-Section.ensures.value c.section_row.ensures.value
-    (section_row_stands from c.section_row.result c.in-Section.section rows held.0 here held.1 c.args.self.now.at r
-    there c.section_row.ensures) in
+    let given = gives_row c.args.self.now rows table.«data» table.fields.1 r c.as_str-in-Section.result
+    c.section_row.result there c.as_str-in-Section.ensures.value c.section_row.ensures.value (section_row_stands from
+    c.section_row.result c.in-Section.section rows table.fields.0 table.«data» table.fields.1 c.args.self.now.at r there
+    c.section_row.ensures) in
     record { steps = given.steps; goes = given.goes }

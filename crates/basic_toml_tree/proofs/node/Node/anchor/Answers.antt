@@ -5,5 +5,4 @@ use Rattle.basic_toml_tree.proofs.node.Node.anchor.Goals as goal
 
 pub returns-else-self-eq0-clause-leads : goal.returns-else-self-eq0-clause-leads
 unfolding anchor_of
-returns-else-self-eq0-clause-leads c =
-    anchored c.anchor.result c.args.self (search (rules))
+returns-else-self-eq0-clause-leads c = anchored _ c.args.self (search (rules))

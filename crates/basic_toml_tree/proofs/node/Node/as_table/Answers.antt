@@ -1,11 +1,7 @@
-use Rattle.std.proofs.Common.{◌≡◌, ap, sym, ◌∙◌, refl, rules, subst, true}
+use Rattle.std.proofs.Common.{◌≡◌, ap, sym, ◌∙◌, refl, rules, true}
 use Rattle.basic_toml_read.specs.declared.section.Raw as raws
-use Rattle.basic_toml_plain.specs.Plain.{is_plain, are_few_simple, rows_data}
+use Rattle.basic_toml_plain.specs.Plain.{is_plain, are_few_simple}
 use Rattle.basic_toml_plain.proofs.PlainValues.{table_within}
-use Rattle.basic_toml_tree.specs.Data.{data_of}
-use Rattle.basic_toml_tree.specs.Nodes.{spot_data}
-use Rattle.basic_toml_grow.specs.Simple.{section_table}
-use Rattle.basic_toml_tree.specs.Stands.{HoldsTable}
 use Rattle.basic_toml_tree.specs.declared.spot.HeaderTable.TheVariants as tables
 use Rattle.basic_toml_tree.specs.declared.spot.Spot.TheVariants as spots
 use Rattle.basic_toml_tree.proofs.SectionData.{section_rows, section_table_data}
@@ -24,18 +20,14 @@ returns-in-Inline-value-clause-fields c =
 
 pub returns-in-Section-clause-data : goal.returns-in-Section-clause-data
 returns-in-Section-clause-data c =
-    ap spot_data c.in-Item.is ∙ ap data_of c.in-Section.is
-    ∙ section_rows c.in-Section.table c.rows-in-Section.ensures.plain
-    ∙ ap rows_data (sym c.rows-in-Section.ensures.rows)
+    rw (c.in-Item.is, c.in-Section.is, c.rows-in-Section.ensures.rows)
+    (section_rows c.in-Section.table c.rows-in-Section.ensures.plain)
 
-pub returns-in-Table-Section-clause-data : goal.returns-in-Table-Section-clause-data
-returns-in-Table-Section-clause-data c =
+pub returns-in-Table-Section : goal.returns-in-Table-Section
+returns-in-Table-Section c =
     let t = c.in-Table-Section.table in
     let here : c.args.self.spot ≡ spots.Table (tables.Section c.in-Table-Section.table) = search rules in
-    ap spot_data here ∙ section_table_data t.section t.rows.now t.simple
-
-pub returns-in-Table-Section-clause-fields : goal.returns-in-Table-Section-clause-fields
-returns-in-Table-Section-clause-fields c =
-    let t = c.in-Table-Section.table in
-    let here : c.args.self.spot ≡ spots.Table (tables.Section c.in-Table-Section.table) = search rules in
-    (subst (λ spot. HoldsTable spot (section_table t.section t.rows.now)) (sym here) refl, t.simple)
+    record {
+      «data» = rw here (section_table_data t.section t.rows.now t.simple);
+      fields = (rw here refl, t.simple);
+    }

@@ -1,24 +1,21 @@
-use Rattle.std.proofs.Common.{◌≡◌, List, ◌∷◌, [], ◌++◌, length, map, Some, ap, sym, ◌∙◌, arith, rules, subst}
-use Rattle.std.proofs.Common.{refl, length-append}
+use Rattle.std.proofs.Common.{◌≡◌, ◌∷◌, [], ◌++◌, length, Some, ap, sym, ◌∙◌, arith, rules, refl, length-append}
 use Rattle.std.proofs.lemmas.Option.{slice_get_read}
-use Rattle.std.specs.Prelude.{slice_get, ◌≤◌, IfNone, IfSome}
+use Rattle.std.specs.Prelude.{slice_get}
 use Rattle.std.proofs.lemmas.List.{length-map}
 use Rattle.std.proofs.lemmas.Grind.{common_steps}
-use Rattle.basic_toml_read.specs.declared.section.Element.{Element}
 use Rattle.basic_toml_grammar.specs.Mentions.{finished}
 use Rattle.basic_toml_read.proofs.ViewsSeen.{array_of}
 use Rattle.basic_toml_plain.specs.Plain.{is_plain, are_plain, plain_data}
 use Rattle.basic_toml_plain.specs.PlainTables.{SectionTable, tables_in}
-use Rattle.basic_toml_plain.specs.Values.{section_data}
 use Rattle.basic_toml_plain.proofs.PlainValues.{array_within}
 use Rattle.basic_toml_grow.specs.declared.item.Item.{Array, Plain, Rows, Sections, Tables}
-use Rattle.basic_toml_tree.specs.Data.{data_of, child_data, table_data}
+use Rattle.basic_toml_tree.specs.Data.{data_of}
 use Rattle.basic_toml_tree.specs.Nodes.{node_data, spot_data, elements_in}
 use Rattle.basic_toml_tree.proofs.Nodes.NodesInOrder.{array_elements, sections_elements, tables_elements}
 use Rattle.basic_toml_tree.proofs.Nodes.NodesInOrder.{front_read, last_read}
 use Rattle.basic_toml_tree.specs.declared.spot.HeaderTable.TheVariants.{Entries}
 use Rattle.basic_toml_tree.specs.declared.spot.Spot.TheVariants as spots
-use Rattle.basic_toml_tree.specs.Stands.{IsPlainElement, AtNumber}
+use Rattle.basic_toml_tree.specs.Stands.{AtNumber}
 use Rattle.basic_toml_tree.proofs.Nodes.NodesStand.{literal_stands, plain_stand, value_stands}
 use Rattle.basic_toml_tree.proofs.Nodes.TablesStand.{section_among, table_among, table_stands}
 use Rattle.basic_toml_tree.proofs.ItemData.{plain_item, rows_item}
@@ -28,13 +25,11 @@ use Rattle.basic_toml_tree.proofs.Nodes.PlainNodes.{plain_given}
 
 pub returns-in-Some : goal.returns-in-Some
 returns-in-Some c =
-    let at : c.args.self.spot ≡ spots.Item c.in-Item-Array.field-0 = search (rules) in
-    let is : c.in-Item-Array.field-0.now ≡ Array c.in-Item-Array.children = search (rules) in
     let all = c.deref.result.now in
     let child = c.in-Some.child.now in
     let lookup = c.in-Some.ensures.lookup in
-    let given = literal_stands c.args.self c.element.result c.args.at c.in-Item-Array.field-0 at
-    c.in-Item-Array.children c.element.result.spot child is
+    let given = literal_stands c.args.self c.element.result c.args.at c.in-Item-Array.field-0 (search (rules))
+    c.in-Item-Array.children c.element.result.spot child (search (rules))
     (ap (λ xs. slice_get xs c.args.at) (sym c.deref.ensures.value)
     ∙ slice_get_read all (length all) c.args.at child refl lookup.3.0 lookup.1)
     c.element.ensures.«data» c.element.ensures.beside c.element.ensures.comes in
@@ -44,42 +39,29 @@ pub returns-in-None-clause-data : goal.returns-in-None-clause-data
 returns-in-None-clause-data c =
     let here : node_data c.args.self ≡ data_of (Array c.in-Item-Array.children) = search (rules) in
     let past = c.in-None.ensures.lookup.3 in
-    let long : length (elements_in (node_data c.args.self)) ≡ length c.deref.result.now =
-    ap (λ d. length (elements_in d)) here ∙ ap length (array_elements c.in-Item-Array.children)
-    ∙ length-map c.in-Item-Array.children.items child_data ∙ ap length (sym c.deref.ensures.value) in
-    omega (arith, past, long)
+    let long = simp length-map at (ap (λ d. length (elements_in d)) here
+    ∙ ap length (array_elements c.in-Item-Array.children)) in
+    omega (arith, past, long, ap length c.deref.ensures.value)
 
+-- tables
 pub returns-else-at-earlier-clause-data : goal.returns-else-at-earlier-clause-data
 returns-else-at-earlier-clause-data c =
     let whole = c.as_slice-earlier.ensures.value ∙ ap (λ ts. ts.0.items) c.deref-in-Item-Tables.ensures in
     let here : node_data c.args.self ≡ data_of (Tables c.in-Item-Tables.tables) = search (rules) in
     let past = c.in-None-get.ensures.lookup.3 in
-    let long : length (elements_in (node_data c.args.self))
-    ≡ length (map table_data c.in-Item-Tables.tables.value.0.items ++ table_data c.in-Item-Tables.tables.value.1 ∷ []) =
-    ap (λ d. length (elements_in d)) here
-    ∙ ap length (tables_elements c.in-Item-Tables.tables) in
-    omega (
-      arith,
-      past,
-      long,
-      length-append (map table_data c.in-Item-Tables.tables.value.0.items) (table_data c.in-Item-Tables.tables.value.1 ∷ []),
-      length-map c.in-Item-Tables.tables.value.0.items table_data,
-      ap length whole,
-      c.if-at-earlier.false,
-    )
+    let long = simp (length-append, length-map) at (ap (λ d. length (elements_in d)) here
+    ∙ ap length (tables_elements c.in-Item-Tables.tables)) in
+    omega (arith, past, long, ap length whole, c.if-at-earlier.false)
 
--- tables
 pub returns-in-Some-get : goal.returns-in-Some-get
 returns-in-Some-get c =
     let tables = c.in-Item-Tables.tables in
-    let at : c.args.self.spot ≡ spots.Item c.in-Item-Tables.field-0 = search (rules) in
-    let is : c.in-Item-Tables.field-0.now ≡ Tables c.in-Item-Tables.tables = search (rules) in
     let whole = c.as_slice-earlier.ensures.value ∙ ap (λ ts. ts.0.items) c.deref-in-Item-Tables.ensures in
     let t = c.in-Some-get.table in
     let all = c.as_slice-earlier.result.now in
     let lookup = c.in-Some-get.ensures.lookup in
-    let given = table_stands c.args.self c.element_table.result c.args.at c.in-Item-Tables.field-0 (Entries t) at
-    (Tables tables) is (table_among tables c.args.at t.now
+    let given = table_stands c.args.self c.element_table.result c.args.at c.in-Item-Tables.field-0 (Entries t)
+    (search (rules)) (Tables tables) (search (rules)) (table_among tables c.args.at t.now
     (front_read tables.value.0.items (tables.value.1 ∷ []) c.args.at t.now
     (ap (λ ts. slice_get ts c.args.at) (sym whole)
     ∙ slice_get_read all (length all) c.args.at t.now refl lookup.3.0 lookup.1)))
@@ -89,11 +71,10 @@ returns-in-Some-get c =
 pub returns-then-at-earlier : goal.returns-then-at-earlier
 returns-then-at-earlier c =
     let tables = c.in-Item-Tables.tables in
-    let at : c.args.self.spot ≡ spots.Item c.in-Item-Tables.field-0 = search (rules) in
-    let is : c.in-Item-Tables.field-0.now ≡ Tables c.in-Item-Tables.tables = search (rules) in
     let whole = c.as_slice-earlier.ensures.value ∙ ap (λ ts. ts.0.items) c.deref-in-Item-Tables.ensures in
     let given = table_stands c.args.self c.element_table-then-at-earlier.result c.args.at c.in-Item-Tables.field-0
-    (Entries _) at (Tables tables) is (table_among tables c.args.at c.deref-then-at-earlier.result.now.1
+    (Entries _) (search (rules)) (Tables tables) (search (rules)) (table_among tables c.args.at
+    c.deref-then-at-earlier.result.now.1
     (ap (slice_get (tables.value.0.items ++ tables.value.1 ∷ [])) (c.if-at-earlier.true ∙ ap length whole)
     ∙ last_read tables.value.0.items tables.value.1
     ∙ ap Some (sym (ap (λ ts. ts.1) c.deref-then-at-earlier.ensures))))
@@ -105,11 +86,9 @@ section : (c : goal.After-section_element)
     × AtNumber c.args.self c.args.at c.section_element.result
 section c =
     let tables = c.in-Item-Sections.tables in
-    let at : c.args.self.spot ≡ spots.Item c.in-Item-Sections.field-0 = search (rules) in
-    let is : c.in-Item-Sections.field-0.now ≡ Sections c.in-Item-Sections.tables = search (rules) in
     let t : SectionTable = (c.in-Some-get-2.section, c.in-Some-get-2.rows.now) in
-    table_stands c.args.self c.section_element.result c.args.at c.in-Item-Sections.field-0 _ at
-    (Sections tables) is (section_among tables c.args.at t
+    table_stands c.args.self c.section_element.result c.args.at c.in-Item-Sections.field-0 _
+    (search (rules)) (Sections tables) (search (rules)) (section_among tables c.args.at t
     (ap (λ ts. slice_get (tables_in ts) c.args.at) (sym c.deref-in-Item-Sections-2.ensures)
     ∙ c.in-Some-get-2.ensures.table) c.in-Some-get-2.ensures.plain)
     c.section_element.ensures.beside c.section_element.ensures.start
@@ -122,15 +101,11 @@ returns-in-Some-get-2-clause-stands c = (section c).1
 
 pub returns-in-None-get-2-clause-data : goal.returns-in-None-get-2-clause-data
 returns-in-None-get-2-clause-data c =
-    let tables = c.in-Item-Sections.tables in
     let here : node_data c.args.self ≡ data_of (Sections c.in-Item-Sections.tables) = search (rules) in
-    omega (
-      arith,
-      c.in-None-get-2.ensures.table,
-      ap (λ ts. length (tables_in ts)) c.deref-in-Item-Sections-2.ensures,
-      ap (λ d. length (elements_in d)) here ∙ ap length (sections_elements tables)
-          ∙ length-map (tables_in tables.value) (λ t. section_data t.1),
-    )
+    let long = simp length-map at (ap (λ d. length (elements_in d)) here
+    ∙ ap length (sections_elements c.in-Item-Sections.tables)) in
+    let whole = ap (λ ts. length (tables_in ts)) c.deref-in-Item-Sections-2.ensures in
+    omega (arith, c.in-None-get-2.ensures.table, long, whole)
 
 -- plain elements
 pub returns-in-Item-Plain : goal.returns-in-Item-Plain
@@ -152,12 +127,10 @@ plain_element-requires-in-Array c =
 pub returns-in-Array : goal.returns-in-Array
 returns-in-Array c =
     let es = c.in-Array.elements in
+    let given_at = rw (c.as_slice.ensures.value) at c.plain_element-in-Array.ensures in
     let given = plain_given c.args.self es.items c.args.at c.plain_element-in-Array.result
     (ap spot_data c.in-Plain.is ∙ ap plain_data c.in-Array.is ∙ ap finished (array_of es))
-    (subst (λ (l : List Element). IfNone c.plain_element-in-Array.result (length l ≤ c.args.at))
-    c.as_slice.ensures.value c.plain_element-in-Array.ensures.none)
-    (subst (λ (l : List Element). IfSome c.plain_element-in-Array.result (IsPlainElement c.args.self l c.args.at))
-    c.as_slice.ensures.value c.plain_element-in-Array.ensures.some)
+    given_at.none given_at.some
     (λ node placed read. value_stands c.args.self node c.args.at c.in-Plain.plain es c.in-Plain.is c.in-Array.is placed
     read) in
     record { within = c.plain_element-in-Array.ensures.within; «data» = given.0; stands = given.1 }

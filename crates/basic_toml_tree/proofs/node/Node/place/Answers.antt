@@ -5,20 +5,16 @@ use Rattle.basic_toml_tree.proofs.node.Node.place.Goals as goal
 
 pub returns-in-Item-Array-clause-foretold : goal.returns-in-Item-Array-clause-foretold
 unfolding offset_of
-returns-in-Item-Array-clause-foretold c =
-    place_foretold c.outer_place.result c.args.self (search (rules))
+returns-in-Item-Array-clause-foretold c = place_foretold _ c.args.self (search (rules))
 
 pub returns-in-Item-Plain-clause-foretold : goal.returns-in-Item-Plain-clause-foretold
 unfolding offset_of
-returns-in-Item-Plain-clause-foretold c =
-    place_foretold c.outer_place-in-Item-Plain.result c.args.self (search (rules))
+returns-in-Item-Plain-clause-foretold c = place_foretold _ c.args.self (search (rules))
 
 pub returns-in-Plain-clause-foretold : goal.returns-in-Plain-clause-foretold
 unfolding offset_of
-returns-in-Plain-clause-foretold c =
-    place_foretold c.outer_place-in-Plain.result c.args.self (search (rules))
+returns-in-Plain-clause-foretold c = place_foretold _ c.args.self (search (rules))
 
 pub returns-in_default-clause-foretold : goal.returns-in_default-clause-foretold
 unfolding offset_of
-returns-in_default-clause-foretold c =
-    place_foretold c.start.result c.args.self (search (rules))
+returns-in_default-clause-foretold c = place_foretold _ c.args.self (search (rules))

@@ -1,24 +1,27 @@
-use Rattle.std.proofs.Common.{ap, refl, subst}
-use Rattle.basic_toml_tree.specs.Keys.{BeginsRow}
+use Rattle.std.proofs.Common.{ap, refl}
 use Rattle.basic_toml_tree.specs.Nodes.{spot_data}
-use Rattle.basic_toml_tree.proofs.Nodes.SectionNodes.{section_row_below, section_row_comes}
+use Rattle.basic_toml_grow.proofs.SectionTables.{row_child_origins, row_child_trie}
+use Rattle.basic_toml_tree.proofs.Nodes.PlainNodes.{value_comes}
 use Rattle.basic_toml_tree.proofs.node.Node.section_row.Goals as goal
 
 pub returns : goal.returns
 returns c =
-    let from = c.args.self in
     let node = c.spot_below.result in
     let r = c.args.row.now in
+    let given = c.spot_below.ensures in
     record {
-      value = ap spot_data c.spot_below.ensures.spot;
-      below = section_row_below from node c.args.section r _ c.requires refl c.spot_below.ensures.spot
-          c.spot_below.ensures.tree c.spot_below.ensures.nested;
-      comes = section_row_comes c.args.section r _ node c.requires refl c.spot_below.ensures.spot
-          c.spot_below.ensures.start;
-      outer = c.spot_below.ensures.outer;
-      keys = c.spot_below.ensures.keys;
-      row = subst (λ k. BeginsRow from k c.args.section node.spot node.trail) c.as_str.ensures.value
-          c.spot_below.ensures.row;
-      handed = c.spot_below.ensures.handed;
-      count = c.spot_below.ensures.count;
+      value = ap spot_data given.spot;
+      below = record {
+        tree = given.tree;
+        count = given.nested;
+        trie = rw (given.spot, row_child_trie c.args.section r c.requires) refl;
+        own = rw (given.spot) refl;
+      };
+      comes = rw (row_child_origins c.args.section r c.requires, ← (given.start))
+          (value_comes _ node.spot given.spot node.count node.start c.args.section);
+      outer = given.outer;
+      keys = given.keys;
+      row = rw (c.as_str.ensures.value) at given.row;
+      handed = given.handed;
+      count = given.count;
     }

@@ -1,7 +1,6 @@
-use Rattle.std.proofs.Common.{◌≡◌, Some, refl, ap, sym, ◌∙◌, arith, length, slice_get}
-use Rattle.basic_toml_read.specs.SectionView.{header_texts}
+use Rattle.std.proofs.Common.{◌≡◌, ◌≤◌, Some, refl, ap, sym, ◌∙◌, arith, length, min, slice_get}
 use Rattle.basic_toml_tree.specs.Keys.{header_at}
-use Rattle.basic_toml_tree.proofs.Nodes.KeysLead.{among_first, past_first, past_all, key_there, no_key, text_count}
+use Rattle.basic_toml_tree.proofs.Nodes.KeysLead.{among_first, past_first, key_there, text_count}
 use Rattle.basic_toml_tree.proofs.node.Node.trail_below.Goals as goal
 use Rattle.basic_toml_tree.proofs.node.Node.trail_below.Goals.{then-len-self+in_default-get, else-len-self}
 
@@ -10,13 +9,11 @@ returns-in-Some-get-clause-row c = λ s kept apart.
     let tree = c.args.self.tree.now in
     let len = length (header_at c.args.self.tree.now c.args.section) in
     let same : c.in-Header.header ≡ s = cc (c.in-Header.is, kept) in
-    let count = text_count c.keys-len.result.now ∙ ap length c.keys-len.ensures in
+    let count = sym (ap length c.keys-len.ensures) ∙ text_count c.keys-len.result.now in
     let at = c.in-Some-get.ensures.lookup in
     let first : slice_get (header_at c.args.self.tree.now s) len ≡ Some c.as_str.result.now =
-    ap (λ s. slice_get (header_at tree s) len) (sym same) ∙ ap (λ keys. slice_get keys len) (sym c.keys.ensures)
-    ∙ ap (slice_get (header_texts c.keys.result.now)) (sym count)
-    ∙ key_there c.keys.result.now (length c.keys-len.result.now) c.in-Some-get.first.now at.3.0 at.1
-    ∙ ap Some (sym c.as_str.ensures.value) in (
+    rw (← same, ← (c.keys.ensures), count, c.as_str.ensures.value) (key_there c.keys.result.now
+    (length c.keys-len.result.now) c.in-Some-get.first.now at.3.0 at.1) in (
       refl,
       among_first (header_at tree s) c.args.self.count len c.args.key.now c.as_str.result.now
           (omega (arith, c.if-len-self.true, count)) first,
@@ -24,21 +21,16 @@ returns-in-Some-get-clause-row c = λ s kept apart.
 
 pub returns-clause-row : goal.returns-clause-row
 returns-clause-row c = λ s kept apart.
-    let tree = c.args.self.tree.now in
+    let keys = header_at c.args.self.tree.now s in
     let len = length (header_at c.args.self.tree.now c.args.section) in
     let same : c.in-Header.header ≡ s = cc (c.in-Header.is, kept) in
-    let count = text_count c.keys-len.result.now ∙ ap length c.keys-len.ensures in
+    let count = sym (ap length c.keys-len.ensures) ∙ text_count c.keys-len.result.now in
+    let past : min c.args.self.count (length (header_at c.args.self.tree.now s)) ≤ len =
     elim c.if-len-self.branch [
-      | then-len-self+in_default-get w ↦ (
-        refl,
-        past_all (header_at tree s) c.args.self.count len c.args.key.now
-            (ap (λ s. slice_get (header_at tree s) len) (sym same) ∙ ap (λ keys. slice_get keys len) (sym w.keys.ensures)
-            ∙ ap (slice_get (header_texts w.keys.result.now)) (sym count)
-            ∙ no_key w.keys.result.now (length c.keys-len.result.now) w.in_default-get.ensures.lookup.3),
-      )
-      | else-len-self w ↦ (
-        refl,
-        past_first (header_at tree s) c.args.self.count len c.args.key.now
-            (omega (arith, w.if-len-self.false, count)),
-      )
-    ]
+      | then-len-self+in_default-get w ↦
+          let all = sym (text_count w.keys.result.now) ∙ ap length w.keys.ensures
+          ∙ ap (λ s. length (header_at c.args.self.tree.now s)) same in
+          omega (arith, w.in_default-get.ensures.lookup.3, all, count)
+      | else-len-self w ↦ omega (arith, w.if-len-self.false, count)
+    ] in
+    (refl, past_first keys c.args.self.count len c.args.key.now past)
