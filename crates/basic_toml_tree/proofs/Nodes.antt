@@ -21,4 +21,5 @@ pub mod RowsReach
 pub mod OneSection
 pub mod NodesAnchored
 pub mod RowNodes
+pub mod EntryNodes
 pub mod SectionNodes

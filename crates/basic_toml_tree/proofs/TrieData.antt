@@ -94,8 +94,12 @@ item_agrees (Item-F.Table e) = search (rules, the_lemmas, e.value.1)
 item_agrees (Item-F.Tables e) =
     let ts : List Table = map (λ e. e.0) e.value.0.items in
     let t : Table = e.value.1.0 in
-    search (rules, the_lemmas, numbers_agree (Some (array (suc (length (map table_trie ts))))) (map table_trie ts)
-    (table_trie t) (map table_data ts) (table_data t) (all_agree table_trie table_data e.value.0.items) e.value.1.1)
+    search (
+      rules,
+      the_lemmas,
+      numbers_agree (Some (array (suc (length (map table_trie ts))))) (map table_trie ts)
+          (table_trie t) (map table_data ts) (table_data t) (all_agree table_trie table_data e.value.0.items) e.value.1.1,
+    )
 item_agrees (Item-F.Sections tables) =
     simp the_lemmas (numbers_agree (Some (array (suc (length tables.value.0))))
     (map (λ t. rows_trie t.1) tables.value.0) (rows_trie tables.value.1.1) _ _ (sections_agree tables.value.0)

@@ -19,7 +19,7 @@ use Rattle.basic_toml_plain.specs.Plain.{plain_data, are_few_simple, key_of}
 use Rattle.basic_toml_plain.specs.Tries.{leaf}
 use Rattle.basic_toml_grow.specs.declared.item.Item.{Item, out-Item}
 use Rattle.basic_toml_grow.specs.declared.item.Item.TheOpen.{Item-F}
-use Rattle.basic_toml_grow.specs.declared.item.Child.{Child}
+use Rattle.basic_toml_grow.specs.declared.item.Child.{Child, out-Child}
 use Rattle.basic_toml_grow.specs.declared.item.Table.{Table}
 use Rattle.basic_toml_tree.specs.declared.tree.Tree.{Tree}
 use Rattle.basic_toml_tree.specs.declared.node.Node.{Node}
@@ -34,9 +34,9 @@ use Rattle.basic_toml_tree.specs.declared.plain_value.PlainValue.{PlainValue}
 use Rattle.basic_toml_grow.specs.Item.{child_trie, item_trie, table_trie}
 use Rattle.basic_toml_tree.specs.Origin.{spot_is_made, spot_name, spot_section, spot_is_borrowed, is_borrowed}
 use Rattle.basic_toml_grow.specs.Origins.{Origin, Origins, child_origins, item_origins, table_within, value_origins}
-use Rattle.basic_toml_grow.specs.Simple.{child_of, section_table}
+use Rattle.basic_toml_grow.specs.Simple.{section_table}
 use Rattle.basic_toml_tree.specs.HeaderTables.{table_of}
-use Rattle.basic_toml_tree.specs.Data.{table_data}
+use Rattle.basic_toml_tree.specs.Data.{child_data, table_data}
 use Rattle.basic_toml_tree.specs.Nodes.{node_data, elements_left, key_and_data, entries_left}
 use Rattle.basic_toml_tree.specs.Paths.{data_along}
 use Rattle.basic_toml_tree.specs.Outer.{around, kept_below, KeepsStart}
@@ -170,14 +170,14 @@ pub record SpotComes (here : Origins) (count : ℕ) (spot : Spot) (at : ℕ) : T
 abbrev pub ComesFrom : Origins → Node → Type 0
 ComesFrom here node = SpotComes here node.count node.spot node.start
 
--- the node of a row of a section, which stands for the entry that the row makes
-pub record IsSectionRow (from : Node) (s : ℕ) (r : Row) (node : Node) : Type 0 where
-  pub value : node_data node ≡ plain_data (out-Row r).value
-  pub below : IsBelow from (child_trie (child_of s r)) node
-  pub comes : ComesFrom (child_origins (child_of s r)) node
+-- the node of what stands at a key of a table, as a child of it
+pub record IsEntry (from : Node) (k : List ℕ) (c : Child) (node : Node) : Type 0 where
+  pub holds : node_data node ≡ child_data c
+  pub below : IsBelow from (child_trie c) node
+  pub comes : ComesFrom (child_origins c) node
   pub outer : node.outer ≡ kept_below from
   pub keys : GoesOn from node.spot node.trail
-  pub row : BeginsRow from (key_of r) s node.spot node.trail
+  pub row : BeginsRow from k (out-Child c).section node.spot node.trail
   pub handed : HandsOn from node.trail
   pub count : CountsOn from node.count
 

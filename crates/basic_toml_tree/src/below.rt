@@ -2,15 +2,11 @@
 
 ghost use Rattle.std.specs.Prelude.{◌≡◌, ◌==◌, true, false};
 ghost use Rattle.basic_toml_read.specs.declared.section.Row.{out-Row};
-ghost use Rattle.basic_toml_plain.specs.Plain.{is_plain};
-ghost use Rattle.basic_toml_grow.specs.Item.{child_trie};
-ghost use Rattle.basic_toml_grow.specs.Origins.{child_origins};
-ghost use Rattle.basic_toml_grow.specs.declared.item.Child.{out-Child};
-ghost use Rattle.basic_toml_tree.specs.Data.{child_data};
+ghost use Rattle.basic_toml_plain.specs.Plain.{is_plain, key_of};
+ghost use Rattle.basic_toml_grow.specs.Simple.{child_of};
 ghost use Rattle.basic_toml_tree.specs.Keys.{GoesOn, CountsOn, BeginsRow, HandsOn};
-ghost use Rattle.basic_toml_tree.specs.Nodes.{node_data};
 ghost use Rattle.basic_toml_tree.specs.Outer.{kept_below};
-ghost use Rattle.basic_toml_tree.specs.Stands.{ComesFrom, IsBelow, IsPlainRow, IsSectionRow};
+ghost use Rattle.basic_toml_tree.specs.Stands.{IsEntry, IsPlainRow};
 
 use crate::node::Node;
 use crate::plain_value::PlainValue;
@@ -23,14 +19,7 @@ impl<'t, 'de> Node<'t, 'de> {
     // A node below this table at a key.
     #[inline(always)]
     pub(crate) fn below(self, key: &'t str, child: &'t Child<'de>) -> Node<'t, 'de>
-        ensures data { node_data result ≡ child_data child.now }
-        ensures below { IsBelow self.entry (child_trie child.now) result }
-        ensures comes { ComesFrom (child_origins child.now) result }
-        ensures outer { result.outer ≡ kept_below self.entry }
-        ensures keys { GoesOn self.entry result.spot result.trail }
-        ensures row { BeginsRow self.entry key.now (out-Child child.now).section result.spot result.trail }
-        ensures handed { HandsOn self.entry result.trail }
-        ensures count { CountsOn self.entry result.count }
+        ensures { IsEntry self.entry key.now child.now result }
     {
         self.spot_below(key, Spot::of(child), child.start, child.section)
     }
@@ -39,7 +28,7 @@ impl<'t, 'de> Node<'t, 'de> {
     #[inline(always)]
     pub(crate) fn section_row(self, row: &'t Row<'de>, section: usize) -> Node<'t, 'de>
         requires { is_plain (out-Row row.now).value 0 ≡ true }
-        ensures { IsSectionRow self.entry section row.now result }
+        ensures { IsEntry self.entry (key_of row.now) (child_of section row.now) result }
     {
         let spot = Spot::Plain(PlainValue { value: &row.value });
         self.spot_below(row.key.as_str(), spot, row.start, section)

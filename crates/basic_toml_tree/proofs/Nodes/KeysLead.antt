@@ -75,7 +75,7 @@ abbrev EndsAt : Path → Step → Path → Step → Type 0
 EndsAt p s q t = ((p ≡ q) × (s ≡ t)) ⊎ ((more : Path) × (p ≡ q ++ t ∷ more))
 
 last_step : (p q : Path) (s t : Step) (r : Path) → p ++ s ∷ [] ≡ q ++ t ∷ r → EndsAt p s q t
-last_step p q s t r same = elim (compare p (s ∷ []) q (t ∷ r) same) [ | inl on ↦ here on | inr on ↦ further on ]
+last_step p q s t r same = elim (compare p (s ∷ []) q (t ∷ r) same) [ inl on ↦ here on | inr on ↦ further on ]
   where
     here : Beyond p (s ∷ []) q (t ∷ r) → EndsAt p s q t
     here ([], at, rest) = let one : s ≡ t = cc in inl (sym (at ∙ append_none p), one)
@@ -123,8 +123,8 @@ pub keys_beside : (from node : Node) (here : Spot) (n : ℕ) → IsBeside from h
 keys_beside from node here n beside tree p stands = (
   λ sections resolved. beside.count ∙ stands.count sections resolved ∙ ap length (sym (keys_more p n)),
   λ sections resolved made.
-  let before = stands.keys sections resolved (made_before (located sections) p (number n) made) in
-  rw (keys_more p n, beside.trail) before,
+      let before = stands.keys sections resolved (made_before (located sections) p (number n) made) in
+      rw (keys_more p n, beside.trail) before,
   rows_on from node (number n) (λ m first is. beside.trail) tree p stands (λ sections resolved k is. absurd (cc)),
 )
 

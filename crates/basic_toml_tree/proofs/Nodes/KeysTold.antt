@@ -276,8 +276,13 @@ module _ (sections : List Section) (node : Node) (p : Path) (is : IsNodeAt secti
         let rows = rw here at (is.stands.rows sections is.resolved q k r (path ∙ rw step refl) made) in
         let before = stands_before ls q s (not_led ls (q ++ s ∷ []) apart) found.number found.located found.there r
         (key found.first ∷ found.others) (sym path ∙ found.path) in
-        rw (row_keys tree x.section node.count (keys_of q) k node.trail (rows own), header, ← (at.1),
-        key_after q found.located.path before.0 r found.others k found.first before.1 (rw (← step) before.2), at.1)
+        rw (
+          row_keys tree x.section node.count (keys_of q) k node.trail (rows own),
+          header,
+          ← (at.1),
+          key_after q found.located.path before.0 r found.others k found.first before.1 (rw (← step) before.2),
+          at.1,
+        )
         (sym found.keys)
 
     pub row_keys_told : IfSome (grammar.node_at sections p) (λ found. kept_keys node ≡ found.key_path)

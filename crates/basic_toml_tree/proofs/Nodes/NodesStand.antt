@@ -1,6 +1,6 @@
 -- A node below another one stands at the path of that one and one more step.
 use Rattle.std.proofs.Common.{◌≡◌, ◌⊎◌, inl, inr, ◌==◌, ℕ, Bool, true, false, List, [], ◌∷◌}
-use Rattle.std.proofs.Common.{◌++◌, Some, None, refl, ap, sym, ◌∙◌, rules, Vec, Global, IsTrue}
+use Rattle.std.proofs.Common.{◌++◌, Some, None, refl, ap, sym, ◌∙◌, rules, Vec, Global}
 use Rattle.std.specs.Prelude.{slice_get}
 use Rattle.std.specs.Option.{option_and_then}
 use Rattle.std.specs.Str.{bytes_eq}
@@ -8,9 +8,8 @@ use Rattle.std.proofs.lemmas.Slice.Eq.{bytes_eq-Decides}
 use Rattle.std.specs.Borrow.{Bor}
 use Rattle.std.proofs.lemmas.Bool.{cases_Bool}
 use Rattle.basic_toml_value.specs.Data.{Data}
-use Rattle.basic_toml_index.specs.Keys.{are_distinct}
-use Rattle.basic_toml_value.specs.Pairs.{keys_of, value_at}
-use Rattle.basic_toml_index.proofs.DistinctKeys.{bytes_eq-same, bytes_eq_other, is_among-before}
+use Rattle.basic_toml_value.specs.Pairs.{value_at}
+use Rattle.basic_toml_index.proofs.DistinctKeys.{bytes_eq-same, bytes_eq_other}
 use Rattle.basic_toml_grammar.specs.Steps.{Step, key, number, Path}
 use Rattle.basic_toml_grammar.specs.Standing as standing
 use Rattle.basic_toml_grammar.specs.Trie.{Trie, trie, nothing, below, find}
@@ -30,7 +29,6 @@ use Rattle.basic_toml_tree.specs.declared.node.Node.{Node}
 use Rattle.basic_toml_tree.specs.declared.plain_value.PlainValue.{PlainValue}
 use Rattle.basic_toml_tree.specs.declared.spot.Spot.{Spot}
 use Rattle.basic_toml_tree.specs.declared.spot.Spot.TheVariants as spots
-use Rattle.basic_toml_value.specs.Growth.{values_of}
 use Rattle.basic_toml_grow.specs.Item.{item_trie, child_trie}
 use Rattle.basic_toml_tree.specs.Stands.{trie_at, tree_trie, spot_trie, wraps_table, HoldsTable, IsBelow, is_root}
 use Rattle.basic_toml_tree.proofs.Nodes.KeysLead.{KeepsKeys, keys_beside}
@@ -43,10 +41,8 @@ use Rattle.basic_toml_tree.specs.Outer.{around}
 use Rattle.basic_toml_tree.specs.Paths.{data_by, data_along}
 use Rattle.basic_toml_grow.specs.Origins.{child_origins, item_origins, value_origins}
 use Rattle.basic_toml_tree.proofs.Nodes.PlainNodes.{element_comes}
-use Rattle.basic_toml_tree.proofs.ItemData.{data_at_found}
 use Rattle.basic_toml_grow.proofs.ItemTries.{table_entries_trie}
 use Rattle.basic_toml_grow.proofs.PlainArrays.{plain_trie}
-use Rattle.basic_toml_value.proofs.KeysChanged.{first_at}
 use Rattle.basic_toml_grow.proofs.ItemsStand.{shape}
 use Rattle.basic_toml_tree.proofs.Nodes.NodesCome.{comes_alike, comes_on, key_origins, literal_comes}
 use Rattle.basic_toml_tree.proofs.Nodes.Lines.{around_key, around_number}
@@ -59,10 +55,10 @@ at_more (r ∷ p) s t = at_more p s (below r t)
 
 -- the data one step on from a path
 data_more : (p : Path) (s : Step) (d : Data) → data_along (p ++ s ∷ []) d ≡ option_and_then (data_by s) (data_along p d)
-data_more [] s d = elim (data_by s d) as (λ o. option_and_then (data_along []) o ≡ o) [ | None ↦ refl | Some x ↦ refl ]
+data_more [] s d = elim (data_by s d) as (λ o. option_and_then (data_along []) o ≡ o) [ None ↦ refl | Some x ↦ refl ]
 data_more (r ∷ p) s d =
     elim (data_by r d) as (λ o. option_and_then (data_along (p ++ s ∷ [])) o
-    ≡ option_and_then (data_by s) (option_and_then (data_along p) o)) [ | None ↦ refl | Some x ↦ data_more p s x ]
+    ≡ option_and_then (data_by s) (option_and_then (data_along p) o)) [ None ↦ refl | Some x ↦ data_more p s x ]
 
 pub no_root : (p : Path) (s : Step) → is_root (p ++ s ∷ []) ≡ false
 no_root [] s = refl
@@ -164,18 +160,6 @@ key_stands from node t k c holds found read is comes keeps keys tree p stands =
 
     from_there : (at : ℕ) → ComesFrom (λ q. node_origins at from (key k ∷ q)) node
     from_there at = comes_alike (key_origins from t k c holds found at) comes
-
--- the key and the value at a position of a table
-pub entry_stands : (from node : Node) (t : Table) (i : ℕ) (k : List ℕ) (c : Child) → HoldsTable from.spot t
-    → IsTrue (are_distinct (keys_of (out-Table t).entries)) → slice_get (keys_of (out-Table t).entries) i ≡ Some k
-    → slice_get (values_of (out-Table t).entries) i ≡ Some c → node_data from ≡ table_data t
-    → node_data node ≡ child_data c → IsBelow from (child_trie c) node → ComesFrom (child_origins c) node
-    → KeepsBelow from node → KeysOn from k c node → StandsOn from (key k) node
-entry_stands from node t i k c holds distinct at value whole part is comes keeps keys =
-    let found : value_at (out-Table t).entries k ≡ Some c =
-    first_at (out-Table t).entries i k c at (is_among-before (keys_of (out-Table t).entries) i k distinct at) value in
-    key_stands from node t k c holds found
-    (rw (whole, part) (data_at_found t k c found)) is comes keeps keys
 
 -- an array is no root
 abbrev pub tells_table : Trie → Bool

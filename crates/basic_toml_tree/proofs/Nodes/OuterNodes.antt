@@ -69,8 +69,10 @@ sections_lines : (ls : List Located) (last : Option ℕ) (later : List Located) 
 sections_lines ls last [] p apart = refl
 sections_lines ls last (l ∷ later) p apart =
     let own = lines_of l.path (names_of l) l.section.rows in
-    rw (rows_lines ls last l l.section.rows p,
-    sections_lines ls last later p (apart_rest own (all_lines later) apart))
+    rw (
+      rows_lines ls last l l.section.rows p,
+      sections_lines ls last later p (apart_rest own (all_lines later) apart),
+    )
     (joined (holder ls last) p own (all_lines later) apart)
 
 -- where a dotted table begins

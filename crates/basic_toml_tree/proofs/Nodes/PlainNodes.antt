@@ -79,8 +79,11 @@ module _ (from node : Node) (es : List Element) (n : ℕ) (is : IsPlainElement f
     (array : (at s : ℕ) → spot_origins from.spot at s ≡ value_origins s at (plain_array es)) where
   pub element_comes : (s : ℕ) → ComesFrom (λ q. node_origins s from (number n ∷ q)) node
   element_comes s =
-      comes_alike (λ q. rw (array from.start s, origins_placed s (map placed_of es),
-      read_mapped (λ e. value_origins s e.offset e.value) (map placed_of es) n _ is.placed) refl)
+      comes_alike (λ q. rw (
+        array from.start s,
+        origins_placed s (map placed_of es),
+        read_mapped (λ e. value_origins s e.offset e.value) (map placed_of es) n _ is.placed,
+      ) refl)
       (value_comes is.plain node.spot is.spot node.count node.start s)
 
 -- what is answered for a number of an array of plain elements

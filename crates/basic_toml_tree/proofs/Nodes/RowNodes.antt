@@ -73,8 +73,14 @@ pub none_passed : (rs : List Row) (n : ℕ) (r : Row) (k : List ℕ) → n < len
     → is_among (map key_of (take n rs)) k ≡ false → bytes_eq (key_of r) k ≡ false
     → is_among (map key_of (take (n + 1) rs)) k ≡ false
 none_passed rs n r k within read before other =
-    rw (take_more rs n r within, ← read, map-append key_of (take n rs) (r ∷ []),
-    is_among-push (map key_of (take n rs)) (key_of r) k, before, bytes_eq_other k (key_of r) other) refl
+    rw (
+      take_more rs n r within,
+      ← read,
+      map-append key_of (take n rs) (r ∷ []),
+      is_among-push (map key_of (take n rs)) (key_of r) k,
+      before,
+      bytes_eq_other k (key_of r) other,
+    ) refl
 
 -- the first of rows whose keys differ, and the others
 pub first_apart : (r : Row) (rs : List Row) → are_distinct (map key_of (r ∷ rs)) ≡ true
@@ -127,8 +133,11 @@ own_origins : (s : ℕ) (rs : List Row) (n : ℕ) (r : Row) (q : Path) → are_d
 own_origins s [] n r q differ read = absurd (cc)
 own_origins s (x ∷ rs) zero r q differ read =
     let same : x ≡ r = cc in
-    rw (← same, beside_origins s x rs (key_of x) q true (bytes_eq-same (key_of x)),
-    no_more_origins s rs (key_of x) q (first_apart x rs differ).0) (or_none _)
+    rw (
+      ← same,
+      beside_origins s x rs (key_of x) q true (bytes_eq-same (key_of x)),
+      no_more_origins s rs (key_of x) q (first_apart x rs differ).0,
+    ) (or_none _)
 own_origins s (x ∷ rs) (suc n) r q differ read =
     beside_origins s x rs (key_of r) q false (later_key x rs n r differ read)
     ∙ own_origins s rs n r q (first_apart x rs differ).1 read
@@ -252,8 +261,12 @@ module _ (from node : Node) (rs : List Row) (holds : HoldsRows from.spot rs) (si
     (n : ℕ) (r : Row) (read : slice_get rs n ≡ Some r) (is : IsPlainRow from r node) where
   row_comes : (s : ℕ) → ComesFrom (λ q. node_origins s from (key (key_of r) ∷ q)) node
   row_comes s =
-      comes_alike (λ q. rw ((means from.spot rs simple holds).origins from.start s (key_of r) q,
-      own_origins s rs n r q (rows_differ rs simple) read, ← (is.start), ← (is.value)) refl)
+      comes_alike (λ q. rw (
+        (means from.spot rs simple holds).origins from.start s (key_of r) q,
+        own_origins s rs n r q (rows_differ rs simple) read,
+        ← (is.start),
+        ← (is.value),
+      ) refl)
       (value_comes is.plain node.spot is.spot node.count node.start s)
 
   pub row_stands : StandsOn from (key (key_of r)) node

@@ -7,8 +7,9 @@ use Rattle.basic_toml_index.specs.Keys.{are_distinct}
 use Rattle.basic_toml_index.proofs.DistinctKeys.{bytes_eq-same}
 use Rattle.basic_toml_value.specs.Data.{Data}
 use Rattle.basic_toml_value.specs.Pairs.{value_at}
-use Rattle.basic_toml_read.specs.declared.section.Row.{Row}
-use Rattle.basic_toml_plain.specs.Plain.{are_few_simple, key_of, rows_data}
+use Rattle.basic_toml_read.specs.declared.section.Row.{Row, out-Row}
+use Rattle.basic_toml_plain.specs.Plain.{are_few_simple, is_plain, key_of, plain_data, rows_data}
+use Rattle.basic_toml_plain.specs.Tries.{tree_data}
 use Rattle.basic_toml_grow.specs.Item.{child_trie, item_trie, table_trie}
 use Rattle.basic_toml_grow.specs.Simple.{child_of, entries_of, section_table}
 use Rattle.basic_toml_grow.specs.declared.item.Item.{Item, out-Item, the_lemmas}
@@ -18,20 +19,19 @@ use Rattle.basic_toml_grow.specs.declared.item.Item.TheViews.{roll-Item}
 use Rattle.basic_toml_grow.specs.declared.item.Child.{Child, out-Child}
 use Rattle.basic_toml_grow.specs.declared.item.Table.{Table, out-Table}
 use Rattle.basic_toml_grow.proofs.ItemsStand.{shape}
-use Rattle.basic_toml_grow.proofs.SectionTables.{entries_are, section_trie}
+use Rattle.basic_toml_grow.proofs.SectionTables.{entries_are, row_child_trie, section_trie}
 use Rattle.basic_toml_tree.specs.Data.{child_data, data_of, table_data}
-use Rattle.basic_toml_tree.specs.Nodes.{fields_data, node_data}
-use Rattle.basic_toml_tree.specs.Stands.{AtKey, HoldsFields, HoldsTable, IsRowAt, IsSectionRow, is_wrapper}
+use Rattle.basic_toml_tree.specs.Nodes.{data_at, fields_data, node_data}
+use Rattle.basic_toml_tree.specs.Stands.{AtKey, HoldsFields, HoldsTable, IsEntry, IsRowAt, is_wrapper}
 use Rattle.basic_toml_tree.specs.declared.node.Node.{Node}
 use Rattle.basic_toml_tree.specs.declared.spot.Fields.{Fields}
 use Rattle.basic_toml_tree.specs.declared.spot.Fields.TheVariants as fields
 use Rattle.basic_toml_tree.specs.declared.spot.Spot.{Spot}
 use Rattle.basic_toml_tree.proofs.ItemData.{child_item}
 use Rattle.basic_toml_tree.proofs.SectionData.{section_rows, section_table_data}
-use Rattle.basic_toml_tree.proofs.Nodes.KeysTold.{key_keeps}
-use Rattle.basic_toml_tree.proofs.Nodes.NodesStand.{key_stands}
-use Rattle.basic_toml_tree.proofs.Nodes.OuterStands.{keeps_below}
-use Rattle.basic_toml_tree.proofs.Nodes.RowNodes.{first_apart, key_found, later_key, rows_differ}
+use Rattle.basic_toml_tree.proofs.TrieData.{item_trie_data}
+use Rattle.basic_toml_tree.proofs.Nodes.EntryNodes.{entry_data, entry_stands}
+use Rattle.basic_toml_tree.proofs.Nodes.RowNodes.{first_apart, later_key, rows_differ}
 
 -- the entry of a row
 row_entry : (s : ℕ) (rows : List Row) (n : ℕ) (r : Row) → are_distinct (map key_of rows) ≡ true
@@ -49,22 +49,33 @@ section_at s rows simple n r read = rw (entries_are s rows) (row_entry s rows n 
 pub child_is : (c : Child) → item_trie (out-Child c).item ≡ child_trie c
 child_is c = search (rules, the_lemmas)
 
-child_section : (s : ℕ) (r : Row) → (out-Child (child_of s r)).section ≡ s
-child_section s r = search (rules, the_lemmas)
+-- the data of a row
+pub section_row_data : (s : ℕ) (r : Row) → is_plain (out-Row r).value 0 ≡ true
+    → child_data (child_of s r) ≡ plain_data (out-Row r).value
+section_row_data s r plain =
+    let c = child_of s r in
+    child_item c
+    ∙ sym (item_trie_data (out-Child c).item)
+    ∙ ap tree_data (child_is c ∙ row_child_trie s r plain)
 
--- the node of a row stands at its key
+-- the node of a row stands at its key, and its data do
 module _ (from node : Node) (s : ℕ) (rows : List Row) (holds : HoldsTable from.spot (section_table s rows))
     (here : node_data from ≡ rows_data rows) (simple : are_few_simple 0 rows ≡ true) where
-  pub section_row_stands : (n : ℕ) (r : Row) → slice_get rows n ≡ Some r → IsSectionRow from s r node
-      → AtKey from (key_of r) node
-  section_row_stands n r read is =
-      key_stands from node (section_table s rows) (key_of r) (child_of s r) holds (section_at s rows simple n r read)
-      (rw (here, is.value) (key_found rows simple n r read)) is.below is.comes (keeps_below from node is.outer)
-      (key_keeps from node (key_of r) (child_of s r) is.keys is.count (rw (child_section s r) is.row) is.handed is.comes
-      is.below.count)
+  whole : node_data from ≡ table_data (section_table s rows)
+  whole = here ∙ sym (section_table_data s rows simple)
 
-  pub section_found_stands : (k : List ℕ) (r : Row) → IsRowAt rows k r → IsSectionRow from s r node → AtKey from k node
-  section_found_stands k r found is = rw (← (found.2)) (section_row_stands found.0 r found.1 is)
+  pub section_row_stands : (n : ℕ) (r : Row) → slice_get rows n ≡ Some r
+      → IsEntry from (key_of r) (child_of s r) node → AtKey from (key_of r) node
+  section_row_stands n r read is =
+      entry_stands (section_table s rows) holds whole (section_at s rows simple n r read) is
+
+  pub section_found : (k : List ℕ) (r : Row) → IsRowAt rows k r → IsEntry from (key_of r) (child_of s r) node
+      → (data_at (node_data from) k ≡ Some (node_data node)) × AtKey from k node
+  section_found k r found is =
+      rw (← (found.2)) (
+        entry_data (section_table s rows) holds whole (section_at s rows simple found.0 r found.1) is,
+        section_row_stands found.0 r found.1 is,
+      )
 
 -- what stands for the table of a header, of which one header alone speaks
 module _ (c : Child) (rows : List Row) (is : (out-Child c).item ≡ items.Section rows)

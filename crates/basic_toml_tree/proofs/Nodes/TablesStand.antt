@@ -66,8 +66,11 @@ table_among tables n t read =
       tables = ap tells_table (tables_trie tables);
       is_trie = rw (tables_trie tables) (find_number 0 n n (map table_trie ts ++ table_trie last ∷ []) (table_trie t)
           (omega arith) (mapped table_trie ts last n t read));
-      origins = λ at s q. rw (tables_seen tables at s, read_mapped (of_table at s)
-          (map table_within ts ++ table_within last ∷ []) n _ (mapped table_within ts last n t read)) refl;
+      origins = λ at s q. rw (
+        tables_seen tables at s,
+        read_mapped (of_table at s)
+            (map table_within ts ++ table_within last ∷ []) n _ (mapped table_within ts last n t read),
+      ) refl;
     }
 
 pub section_among : (tables : Box SectionTables Global) (n : ℕ) (t : SectionTable)
@@ -83,8 +86,11 @@ section_among tables n t read simple =
       is_trie = rw (sections_trie tables, ← (section_trie t.0 t.1 simple), section_item_trie t.1)
           (find_number 0 n n (map (λ t. rows_trie t.1) ts ++ rows_trie last.1 ∷ []) (rows_trie t.1) (omega arith)
           (mapped (λ t. rows_trie t.1) ts last n t read));
-      origins = λ at s q. rw (sections_seen tables at s, mapped (section_origins at) ts last n t read,
-          section_within t.0 t.1 simple) refl;
+      origins = λ at s q. rw (
+        sections_seen tables at s,
+        mapped (section_origins at) ts last n t read,
+        section_within t.0 t.1 simple,
+      ) refl;
     }
 
 -- its node

@@ -70,8 +70,12 @@ none_later : (s : ℕ) (steps : Path) (rows : Rows) (r : Step) (q : Path) → be
     → any_overlaps steps rows ≡ false → rows_origins s rows (r ∷ q) ≡ None
 none_later s steps no_rows r q here apart = refl
 none_later s steps (row ks at v rows) r q here apart =
-    grind (arith, keys_begin (texts ks) (table_origin false at s) (value_origins s at v) r q,
-    neither_begins steps (steps_of (texts ks)) (r ∷ q) here, none_later s steps rows r q here)
+    grind (
+      arith,
+      keys_begin (texts ks) (table_origin false at s) (value_origins s at v) r q,
+      neither_begins steps (steps_of (texts ks)) (r ∷ q) here,
+      none_later s steps rows r q here,
+    )
 
 -- one of three: below the value, a table on the way to it, or in a later row
 chosen : (a b : Bool) (m n : Option Node) (o p : Option Origin) (d : Node) (e : Origin)
@@ -156,8 +160,12 @@ module _ (ls : List Located) (last : Option ℕ) (l : Located) (n : ℕ) where
       let first = or_parts (any_overlaps steps rows) (value_clashes v) split.0 in
       let keys_in = and_parts (has_key ks && value_keyed v) (keyed_within rows) keyed in
       let value_in = and_parts (has_key ks) (value_keyed v) keys_in.0 in
-      rw (keys_begin (texts ks) (table_origin false at n) (value_origins n at v) r q, begins_on l.path steps (r ∷ q),
-      begins_on l.path (r ∷ q) steps, drop_on l.path steps (r ∷ q))
+      rw (
+        keys_begin (texts ks) (table_origin false at n) (value_origins n at v) r q,
+        begins_on l.path steps (r ∷ q),
+        begins_on l.path (r ∷ q) steps,
+        drop_on l.path steps (r ∷ q),
+      )
       (chosen (begins steps (r ∷ q)) (begins (r ∷ q) steps) _ _ _ _ _ _
       (value_same key_path (holder ls last (front path)) n at v (drop (length steps) (r ∷ q)) first.1 value_in.1) refl
       (rows_same rows r q split.1 keys_in.1) (λ here. none_later n steps rows r q here first.0))

@@ -39,7 +39,7 @@ ways_are st true cut (k ∷ []) = ap (λ n. key k ∷ number n ∷ []) (counted 
 ways_are st false cut (k ∷ []) =
     rw (counted st cut k) (elim (count_at st (cut ++ key k ∷ [])) as (λ n.
     key k ∷ way_on (λ t. []) n (below (key k) (descend cut (trie_of st))) ≡ (key k ∷ latest n) ++ []) [
-      zero ↦ refl
+      | zero ↦ refl
       | suc n ↦ refl
     ])
 ways_are st a cut (k ∷ l ∷ keys) =
@@ -51,7 +51,7 @@ ways_are st a cut (k ∷ l ∷ keys) =
     key k ∷ way_on (λ t. way a (l ∷ keys) t) n here
     ≡ ((key k ∷ latest n) ++ target_from (λ p. count_at st p) a (cut ++ key k ∷ latest n) (l ∷ keys))
     ++ step_into (element_from (λ p. count_at st p) a (cut ++ key k ∷ latest n) (l ∷ keys))) [
-      zero ↦ ap (λ w. key k ∷ w) (on (key k ∷ []))
+      | zero ↦ ap (λ w. key k ∷ w) (on (key k ∷ []))
       | suc n ↦ ap (λ w. key k ∷ number n ∷ w) (on (key k ∷ number n ∷ []))
     ])
 

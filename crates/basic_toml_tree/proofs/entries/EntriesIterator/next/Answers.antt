@@ -1,4 +1,4 @@
-use Rattle.std.proofs.Common.{◌≡◌, arith, length, rules, refl}
+use Rattle.std.proofs.Common.{◌≡◌, ◌∙◌, arith, length, rules, refl}
 use Rattle.std.proofs.lemmas.List.{length-map}
 use Rattle.std.proofs.lemmas.Option.{slice_get_read}
 use Rattle.basic_toml_grow.specs.declared.item.Table.{out-Table}
@@ -6,12 +6,10 @@ use Rattle.basic_toml_tree.specs.Data.{child_data, table_data}
 use Rattle.basic_toml_tree.specs.Nodes.{node_data}
 use Rattle.basic_toml_tree.specs.Stands.{HoldsTable}
 use Rattle.basic_toml_tree.proofs.Nodes.NodesInOrder.{pair_read, table_entries}
-use Rattle.basic_toml_tree.proofs.Nodes.NodesStand.{entry_stands}
-use Rattle.basic_toml_tree.proofs.Nodes.OuterStands.{keeps_below}
-use Rattle.basic_toml_tree.proofs.Nodes.KeysTold.{key_keeps}
+use Rattle.basic_toml_tree.proofs.Nodes.EntryNodes.{entry_at, entry_stands}
 use Rattle.basic_toml_tree.proofs.Nodes.RowNodes.{plain_at, row_node_data, row_stands, none_left, no_row_left}
 use Rattle.basic_toml_tree.proofs.Nodes.RowNodes.{gives_row, gives_next}
-use Rattle.basic_toml_tree.proofs.Nodes.SectionNodes.{section_row_stands}
+use Rattle.basic_toml_tree.proofs.Nodes.SectionNodes.{section_row_data, section_row_stands}
 use Rattle.basic_toml_tree.proofs.entries.EntriesIterator.next.Goals as goal
 
 pub returns-then-at-len-clause-steps : goal.returns-then-at-len-clause-steps
@@ -22,21 +20,17 @@ returns-then-at-len-clause-steps c =
 
 pub returns-else-at-len : goal.returns-else-at-len
 returns-else-at-len c =
-    let from = c.args.self.now.table in
     let table = c.in-Table.table.now in
-    let node = c.below.result in
+    let at = c.args.self.now.at in
     let key = c.key-key.result.now in
     let child = c.value.result.now in
-    let holds : HoldsTable c.args.self.now.table.spot c.in-Table.table.now = search (rules) in
-    let whole : node_data c.args.self.now.table ≡ table_data c.in-Table.table.now = search (rules) in
-    let given = gives_next c.args.self.now (c.key-key.result, node)
-    (rw (whole, table_entries table, c.below.ensures.«data») (pair_read child_data (out-Table table).entries
-    c.args.self.now.at key child c.key-key.ensures c.value.ensures))
-    (entry_stands from node table c.args.self.now.at key child holds c.entries-pairs.ensures.distinct c.key-key.ensures
-    c.value.ensures whole c.below.ensures.«data» c.below.ensures.below c.below.ensures.comes
-    (keeps_below from node c.below.ensures.outer)
-    (key_keeps from node key child c.below.ensures.keys c.below.ensures.count c.below.ensures.row
-    c.below.ensures.handed c.below.ensures.comes c.below.ensures.below.count)) in
+    let holds : HoldsTable c.args.self.now.table.spot table = search rules in
+    let whole : node_data c.args.self.now.table ≡ table_data table = search rules in
+    let given = gives_next c.args.self.now (c.key-key.result, c.below.result)
+    (rw (whole, table_entries table, c.below.ensures.holds) (pair_read child_data (out-Table table).entries at key child
+    c.key-key.ensures c.value.ensures))
+    (entry_stands table holds whole
+    (entry_at table at key child c.entries-pairs.ensures.distinct c.key-key.ensures c.value.ensures) c.below.ensures) in
     record { steps = given.steps; goes = given.goes }
 
 -- the rows of an inline table
@@ -87,7 +81,9 @@ returns-in_ok-row-in-Section c =
     let lookup = c.in_ok-row-in-Section.ensures.lookup in
     let there = slice_get_read rows (length rows) c.args.self.now.at r refl lookup.3.0 lookup.1 in
     let given = gives_row c.args.self.now rows table.«data» table.fields.1 r c.as_str-in-Section.result
-    c.section_row.result there c.as_str-in-Section.ensures.value c.section_row.ensures.value (section_row_stands from
+    c.section_row.result there c.as_str-in-Section.ensures.value
+    (c.section_row.ensures.holds ∙ section_row_data c.in-Section.section r
+    (plain_at rows table.fields.1 c.args.self.now.at r lookup.3.0 lookup.1)) (section_row_stands from
     c.section_row.result c.in-Section.section rows table.fields.0 table.«data» table.fields.1 c.args.self.now.at r there
     c.section_row.ensures) in
     record { steps = given.steps; goes = given.goes }

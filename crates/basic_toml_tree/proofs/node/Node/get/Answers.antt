@@ -1,12 +1,11 @@
-use Rattle.std.proofs.Common.{◌≡◌, Some, rules}
+use Rattle.std.proofs.Common.{◌≡◌, ◌∙◌, rules}
 use Rattle.basic_toml_tree.specs.Data.{table_data}
-use Rattle.basic_toml_tree.specs.Nodes.{node_data, data_at}
-use Rattle.basic_toml_tree.proofs.ItemData.{data_at_found, data_at_absent}
-use Rattle.basic_toml_tree.proofs.Nodes.NodesStand.{key_stands}
-use Rattle.basic_toml_tree.proofs.Nodes.OuterStands.{keeps_below}
-use Rattle.basic_toml_tree.proofs.Nodes.KeysTold.{key_keeps}
+use Rattle.basic_toml_tree.specs.Nodes.{node_data}
+use Rattle.basic_toml_tree.specs.Stands.{HoldsTable}
+use Rattle.basic_toml_tree.proofs.ItemData.{data_at_absent}
+use Rattle.basic_toml_tree.proofs.Nodes.EntryNodes.{entry_data, entry_stands}
 use Rattle.basic_toml_tree.proofs.Nodes.RowNodes.{found_data, found_plain, found_stands, key_absent, row_node_data}
-use Rattle.basic_toml_tree.proofs.Nodes.SectionNodes.{section_found_stands}
+use Rattle.basic_toml_tree.proofs.Nodes.SectionNodes.{section_found}
 use Rattle.basic_toml_tree.proofs.node.Node.get.Goals as goal
 
 pub returns-in_default-clause-data : goal.returns-in_default-clause-data
@@ -16,19 +15,13 @@ returns-in_default-clause-data c =
 
 pub returns-in-Some : goal.returns-in-Some
 returns-in-Some c =
-    let from = c.args.self in
     let table = c.in-Table.table.now in
-    let k = c.args.key.now in
-    let child = c.in-Some.pair.now.value in
-    let below = c.below.ensures in
-    let here : node_data c.args.self ≡ table_data c.in-Table.table.now = search (rules) in
-    let read : data_at (node_data c.args.self) c.args.key.now ≡ Some (node_data c.below.result) =
-    rw (here, below.«data») (data_at_found table k child c.in-Some.ensures.value) in
+    let holds : HoldsTable c.args.self.spot table = search rules in
+    let whole : node_data c.args.self ≡ table_data table = search rules in
+    let is = rw (c.as_str.ensures.value ∙ c.in-Some.ensures.same) at c.below.ensures in
     record {
-      «data» = read;
-      stands = key_stands from c.below.result table k child (search (rules)) c.in-Some.ensures.value read below.below
-          below.comes (keeps_below from c.below.result below.outer) (key_keeps from c.below.result k child
-          (search (rules)) below.count (search (rules)) below.handed below.comes below.below.count);
+      «data» = entry_data table holds whole c.in-Some.ensures.value is;
+      stands = entry_stands table holds whole c.in-Some.ensures.value is;
     }
 
 -- a row of an inline table
@@ -64,15 +57,10 @@ section_row-requires c =
 pub returns-in-Some-row_at-2 : goal.returns-in-Some-row_at-2
 returns-in-Some-row_at-2 c =
     let table = rw c.in-Section.is at c.in_ok-table.ensures in
-    let rows = c.in-Section.rows.now in
-    let r = c.in-Some-row_at-2.row.now in
-    let node = c.section_row.result in
-    record {
-      «data» = found_data rows table.fields.1 c.args.key.now r c.in-Some-row_at-2.ensures c.args.self node table.«data»
-          c.section_row.ensures.value;
-      stands = section_found_stands c.args.self node c.in-Section.section rows table.fields.0 table.«data»
-          table.fields.1 c.args.key.now r c.in-Some-row_at-2.ensures c.section_row.ensures;
-    }
+    let found = section_found c.args.self c.section_row.result c.in-Section.section c.in-Section.rows.now
+    table.fields.0 table.«data» table.fields.1 c.args.key.now c.in-Some-row_at-2.row.now c.in-Some-row_at-2.ensures
+    c.section_row.ensures in
+    record { «data» = found.0; stands = found.1 }
 
 pub returns-in-None-row_at-clause-data : goal.returns-in-None-row_at-clause-data
 returns-in-None-row_at-clause-data c =

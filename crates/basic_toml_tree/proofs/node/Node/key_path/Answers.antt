@@ -9,8 +9,13 @@ unfolding keys_of
 returns-in_ok-path-in-Header c =
     let path = c.in_ok-path-in-Header.path.items in
     let same : map string_bytes c.truncate.new.self.items ≡ keys_of c.args.self =
-    rw (c.truncate.ensures.items, c.in-Header.is, ← (take-map string_bytes c.args.self.count path),
-    c.in_ok-path-in-Header.ensures, c.keys.ensures) refl in
+    rw (
+      c.truncate.ensures.items,
+      c.in-Header.is,
+      ← (take-map string_bytes c.args.self.count path),
+      c.in_ok-path-in-Header.ensures,
+      c.keys.ensures,
+    ) refl in
     record { is = same; foretold = keys_foretold _ c.args.self same }
 
 pub returns-in_ok-push-in-Row-clause-foretold : goal.returns-in_ok-push-in-Row-clause-foretold
@@ -22,6 +27,12 @@ returns-in_ok-push-in-Row-clause-foretold c =
     search (rules) in
     let text : string_bytes c.in_ok-from_str-in-Row.field-0 ≡ c.in-Row.first.now = search (rules) in
     let same : map string_bytes c.push.new.self.items ≡ keys_of c.args.self =
-    rw (items, c.in-Row.is, map-append string_bytes path (last ∷ []), c.in_ok-path-in-Row.ensures,
-    c.keys-in-Row.ensures, text) refl in
+    rw (
+      items,
+      c.in-Row.is,
+      map-append string_bytes path (last ∷ []),
+      c.in_ok-path-in-Row.ensures,
+      c.keys-in-Row.ensures,
+      text,
+    ) refl in
     keys_foretold _ c.args.self same

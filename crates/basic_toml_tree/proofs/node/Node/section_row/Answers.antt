@@ -1,27 +1,29 @@
-use Rattle.std.proofs.Common.{ap, refl}
+use Rattle.std.proofs.Common.{ap, refl, sym, ◌∙◌}
 use Rattle.basic_toml_tree.specs.Nodes.{spot_data}
 use Rattle.basic_toml_grow.proofs.SectionTables.{row_child_origins, row_child_trie}
 use Rattle.basic_toml_tree.proofs.Nodes.PlainNodes.{value_comes}
+use Rattle.basic_toml_tree.proofs.Nodes.SectionNodes.{section_row_data}
 use Rattle.basic_toml_tree.proofs.node.Node.section_row.Goals as goal
 
 pub returns : goal.returns
 returns c =
     let node = c.spot_below.result in
+    let s = c.args.section in
     let r = c.args.row.now in
-    let given = c.spot_below.ensures in
+    let is = c.spot_below.ensures in
     record {
-      value = ap spot_data given.spot;
+      holds = ap spot_data is.spot ∙ sym (section_row_data s r c.requires);
       below = record {
-        tree = given.tree;
-        count = given.nested;
-        trie = rw (given.spot, row_child_trie c.args.section r c.requires) refl;
-        own = rw (given.spot) refl;
+        tree = is.tree;
+        count = is.nested;
+        trie = rw (is.spot, row_child_trie s r c.requires) refl;
+        own = rw (is.spot) refl;
       };
-      comes = rw (row_child_origins c.args.section r c.requires, ← (given.start))
-          (value_comes _ node.spot given.spot node.count node.start c.args.section);
-      outer = given.outer;
-      keys = given.keys;
-      row = rw (c.as_str.ensures.value) at given.row;
-      handed = given.handed;
-      count = given.count;
+      comes = rw (row_child_origins s r c.requires, ← (is.start))
+          (value_comes _ node.spot is.spot node.count node.start s);
+      outer = is.outer;
+      keys = is.keys;
+      row = search (rw (c.as_str.ensures.value) at is.row);
+      handed = is.handed;
+      count = is.count;
     }

@@ -1,0 +1,36 @@
+-- The node of what stands at a key of a table: its data stand there, and so does it in the tree.
+use Rattle.std.proofs.Common.{◌≡◌, ℕ, List, Some}
+use Rattle.std.specs.Prelude.{IsTrue, slice_get}
+use Rattle.basic_toml_index.specs.Keys.{are_distinct}
+use Rattle.basic_toml_index.proofs.DistinctKeys.{is_among-before}
+use Rattle.basic_toml_value.specs.Growth.{values_of}
+use Rattle.basic_toml_value.specs.Pairs.{keys_of, value_at}
+use Rattle.basic_toml_value.proofs.KeysChanged.{first_at}
+use Rattle.basic_toml_grow.specs.declared.item.Child.{Child}
+use Rattle.basic_toml_grow.specs.declared.item.Table.{Table, out-Table}
+use Rattle.basic_toml_tree.specs.Data.{table_data}
+use Rattle.basic_toml_tree.specs.Nodes.{data_at, node_data}
+use Rattle.basic_toml_tree.specs.Stands.{AtKey, HoldsTable, IsEntry}
+use Rattle.basic_toml_tree.specs.declared.node.Node.{Node}
+use Rattle.basic_toml_tree.proofs.ItemData.{data_at_found}
+use Rattle.basic_toml_tree.proofs.Nodes.KeysTold.{key_keeps}
+use Rattle.basic_toml_tree.proofs.Nodes.NodesStand.{key_stands}
+use Rattle.basic_toml_tree.proofs.Nodes.OuterStands.{keeps_below}
+
+-- the key and the value at a position
+pub entry_at : (t : Table) (i : ℕ) (k : List ℕ) (c : Child) → IsTrue (are_distinct (keys_of (out-Table t).entries))
+    → slice_get (keys_of (out-Table t).entries) i ≡ Some k → slice_get (values_of (out-Table t).entries) i ≡ Some c
+    → value_at (out-Table t).entries k ≡ Some c
+entry_at t i k c distinct at value =
+    first_at (out-Table t).entries i k c at (is_among-before (keys_of (out-Table t).entries) i k distinct at) value
+
+module _ {from node : Node} {k : List ℕ} {c : Child} (t : Table) (holds : HoldsTable from.spot t)
+    (whole : node_data from ≡ table_data t) (found : value_at (out-Table t).entries k ≡ Some c)
+    (is : IsEntry from k c node) where
+  pub entry_data : data_at (node_data from) k ≡ Some (node_data node)
+  entry_data = rw (whole, is.holds) (data_at_found t k c found)
+
+  pub entry_stands : AtKey from k node
+  entry_stands =
+      key_stands from node t k c holds found entry_data is.below is.comes (keeps_below from node is.outer)
+      (key_keeps from node k c is.keys is.count is.row is.handed is.comes is.below.count)
