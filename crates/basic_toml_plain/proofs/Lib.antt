@@ -1,6 +1,5 @@
 pub mod PlainParts
 pub mod PlainSeen
-pub mod LoneRows
 pub mod SimpleKeys
 pub mod PlainValues
 pub mod PartsOfRows

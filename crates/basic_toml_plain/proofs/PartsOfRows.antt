@@ -1,7 +1,6 @@
 -- Sections whose rows stand in one list, one after another: what each of them takes of it.
-use Rattle.std.proofs.Common.{◌≡◌, ℕ, ◌+◌, ◌≤◌, true, List, [], ◌∷◌, ◌++◌, length, take, drop, refl, ap, ap₂, sym, ◌∙◌}
+use Rattle.std.proofs.Common.{◌≡◌, ℕ, ◌+◌, ◌≤◌, true, List, [], ◌∷◌, ◌++◌, length, take, drop, refl, ap, sym, ◌∙◌}
 use Rattle.std.proofs.Common.{nat_eq, nat_le, zero, suc, Some, slice_get, arith, subst, length-append}
-use Rattle.std.specs.Prelude.{◌&&◌}
 use Rattle.std.specs.List.{list_all}
 use Rattle.std.proofs.lemmas.Bool.{and_parts, and_from}
 use Rattle.std.proofs.lemmas.List.{drop-append-le, drop-drop, drop_all, length-drop, length_push, nil_from_length}
@@ -23,11 +22,9 @@ pub record FirstPart (at : ℕ) (rows : List Row) (s : SectionRows) (ss : List S
 pub first_part : (at : ℕ) (rows : List Row) (s : SectionRows) (ss : List SectionRows)
     → are_parts at rows (s ∷ ss) ≡ true → FirstPart at rows s ss
 first_part at rows s ss are =
-    let few = are_few_simple 0 (take s.count rows) in
-    let within = nat_le s.count (length rows) in
-    let a = and_parts (nat_eq s.start at && (within && few)) (are_parts (at + s.count) (drop s.count rows) ss) are in
-    let b = and_parts (nat_eq s.start at) (within && few) a.0 in
-    let c = and_parts within few b.1 in
+    let a = and_parts _ _ are in
+    let b = and_parts (nat_eq s.start at) _ a.0 in
+    let c = and_parts (nat_le s.count (length rows)) _ b.1 in
     record { start = grind (arith, b.0); within = grind (arith, c.0); few = c.1; others = a.1 }
 
 parts_from : (at : ℕ) (rows : List Row) (s : SectionRows) (ss : List SectionRows)
@@ -40,24 +37,17 @@ parts_from at rows s ss first =
 no_rows : (at : ℕ) (rows : List Row) → are_parts at rows [] ≡ true → rows ≡ []
 no_rows at rows are = nil_from_length rows (grind (arith, are))
 
--- the last section takes all rows that are left
-last_takes_all : (at : ℕ) (rows : List Row) (s : SectionRows) → are_parts at rows (s ∷ []) ≡ true
-    → take s.count rows ≡ rows
-last_takes_all at rows s are =
-    let first = first_part at rows s [] are in
-    let none = ap length (no_rows (at + s.count) (drop s.count rows) first.others) in
-    take_all s.count rows (omega (arith, length-drop s.count rows, none))
-
 -- no row of a part stands further on
 pub parts_more : (at : ℕ) (rows more : List Row) (ss : List SectionRows) → are_parts at rows ss ≡ true
     → parts (rows ++ more) ss ≡ parts rows ss
 parts_more at rows more [] are = refl
 parts_more at rows more (s ∷ ss) are =
     let first = first_part at rows s ss are in
-    ap₂ (λ (front : List Row) (others : List SectionTable). (s.section, front) ∷ others)
-    (take-append-le s.count rows more first.within)
-    (ap (λ rs. parts rs ss) (drop-append-le s.count rows more first.within)
-    ∙ parts_more (at + s.count) (drop s.count rows) more ss first.others)
+    rw (
+      take-append-le s.count rows more first.within,
+      drop-append-le s.count rows more first.within,
+      parts_more (at + s.count) (drop s.count rows) more ss first.others,
+    ) refl
 
 -- one more section, with the rows that are put last
 pub are_parts_push : (at : ℕ) (rows more : List Row) (ss : List SectionRows) (s : SectionRows)
@@ -65,24 +55,22 @@ pub are_parts_push : (at : ℕ) (rows more : List Row) (ss : List SectionRows) (
     → are_few_simple 0 more ≡ true → are_parts at (rows ++ more) (ss ++ s ∷ []) ≡ true
 are_parts_push at rows more [] s are start count few =
     let none = no_rows at rows are in
-    ap (λ rs. are_parts at (rs ++ more) (s ∷ [])) none
-    ∙ parts_from at more s [] (record {
-      start = omega (arith, start, ap length none);
-      within = omega (arith, count);
-      few = ap (are_few_simple 0) (take_all s.count more (omega (arith, count))) ∙ few;
-      others = ap (λ rs. are_parts (at + s.count) rs []) (drop_all s.count more (omega (arith, count)));
-    })
+    rw none (parts_from at more s [] (record {
+      start = omega (arith, ap length none);
+      within = omega arith;
+      few = rw (take_all s.count more (omega arith)) few;
+      others = rw (drop_all s.count more (omega arith)) refl;
+    }))
 are_parts_push at rows more (t ∷ ss) s are start count few =
     let first = first_part at rows t ss are in
-    let left = drop-append-le t.count rows more first.within in
     parts_from at (rows ++ more) t (ss ++ s ∷ []) (record {
       start = first.start;
-      within = omega (arith, length-append rows more, first.within);
-      few = ap (are_few_simple 0) (take-append-le t.count rows more first.within) ∙ first.few;
+      within = omega (arith, length-append rows more);
+      few = rw (take-append-le t.count rows more first.within) first.few;
       others =
-          ap (λ rs. are_parts (at + t.count) rs (ss ++ s ∷ [])) left
-          ∙ are_parts_push (at + t.count) (drop t.count rows) more ss s first.others
-          (omega (arith, start, length-drop t.count rows, first.within)) count few;
+          rw (drop-append-le t.count rows more first.within)
+          (are_parts_push (at + t.count) (drop t.count rows) more ss s first.others
+          (omega (arith, length-drop t.count rows)) count few);
     })
 
 -- where the rows of a section stand
@@ -100,23 +88,17 @@ stands_at at rows (t ∷ ss) zero s are there =
     let same : t ≡ s = cc in
     let first = first_part at rows t ss are in
     subst (λ s. StandsAt at rows (t ∷ ss) 0 s) same
-    (record {
-      from = 0;
-      start = omega (arith, first.start);
-      within = omega (arith, first.within);
-      table = refl;
-      few = first.few;
-    })
+    (record { from = 0; start = omega arith; within = omega arith; table = refl; few = first.few })
 stands_at at rows (t ∷ ss) (suc n) s are there =
     let first = first_part at rows t ss are in
     let other = stands_at (at + t.count) (drop t.count rows) ss n s first.others there in
     let further = drop-drop other.from t.count rows in
     record {
       from = t.count + other.from;
-      start = omega (arith, other.start);
-      within = omega (arith, other.within, length-drop t.count rows, first.within);
-      table = other.table ∙ ap (λ rs. Some (s.section, take s.count rs)) further;
-      few = ap (λ rs. are_few_simple 0 (take s.count rs)) (sym further) ∙ other.few;
+      start = omega arith;
+      within = omega (arith, length-drop t.count rows);
+      table = rw (← further) other.table;
+      few = rw (← further) other.few;
     }
 
 -- and those of the last one, which are all from its start on
@@ -126,17 +108,13 @@ latest_part : (at : ℕ) (rows : List Row) (ss : List SectionRows) (s : SectionR
     × (parts rows (ss ++ s ∷ []) ≡ parts rows ss ++ (s.section, drop from rows) ∷ [])
 latest_part at rows [] s are =
     let first = first_part at rows s [] are in
-    (0, omega (arith, first.start), ap (λ (rs : List Row). (s.section, rs) ∷ []) (last_takes_all at rows s are))
+    let none = ap length (no_rows (at + s.count) (drop s.count rows) first.others) in
+    let all = take_all s.count rows (omega (arith, length-drop s.count rows)) in
+    (0, omega arith, rw all refl)
 latest_part at rows (t ∷ ss) s are =
     let first = first_part at rows t (ss ++ s ∷ []) are in
     let other = latest_part (at + t.count) (drop t.count rows) ss s first.others in
-    let here : SectionTable = (t.section, take t.count rows) in (
-      t.count + other.0,
-      omega (arith, other.1),
-      ap (λ ts. here ∷ ts) other.2
-          ∙ ap (λ (rs : List Row). here ∷ parts (drop t.count rows) ss ++ (s.section, rs) ∷ [])
-          (drop-drop other.0 t.count rows),
-    )
+    (t.count + other.0, omega (arith, other.1), rw (other.2, drop-drop other.0 t.count rows) refl)
 
 parts_count : (rows : List Row) (ss : List SectionRows) → length (parts rows ss) ≡ length ss
 parts_count rows [] = refl
@@ -168,8 +146,7 @@ pub parts_are_plain : (at : ℕ) (rows : List Row) (ss : List SectionRows) → a
 parts_are_plain at rows [] are = ap (are_all_plain 0) (no_rows at rows are)
 parts_are_plain at rows (s ∷ ss) are =
     let first = first_part at rows s ss are in
-    let front = take s.count rows in
-    let rest = drop s.count rows in
     ap (are_all_plain 0) (sym (take-append-drop s.count rows))
-    ∙ list_all-append (λ r. is_plain (out-Row r).value 0) front rest
-    ∙ and_from _ _ (few_are_plain 0 front first.few) (parts_are_plain (at + s.count) rest ss first.others)
+    ∙ list_all-append (λ r. is_plain (out-Row r).value 0) (take s.count rows) (drop s.count rows)
+    ∙ and_from _ _ (few_are_plain 0 _ first.few)
+    (parts_are_plain (at + s.count) (drop s.count rows) ss first.others)

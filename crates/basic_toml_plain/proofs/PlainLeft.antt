@@ -1,8 +1,8 @@
--- Plain elements and simple rows, one after another: each of them is plain, and so are those that are left.
-use Rattle.std.proofs.Common.{◌≡◌, ◌<◌, ℕ, zero, suc, Bool, true, List, [], ◌∷◌, ◌++◌, length, get_or, map}
-use Rattle.std.proofs.Common.{Vec, Global, sym, ap, ◌∙◌, arith}
+-- Plain elements and simple rows, one after another: each of them is plain.
+use Rattle.std.proofs.Common.{◌≡◌, ◌<◌, ℕ, Bool, true, List, ◌∷◌, length, get_or, map, Vec, Global, sym, ap, ◌∙◌, arith}
 use Rattle.std.specs.List.{list_all}
 use Rattle.std.proofs.lemmas.Bool.{and_parts}
+use Rattle.std.proofs.lemmas.List.Folds.{list_all_at}
 use Rattle.basic_toml_value.specs.Data.{items_of}
 use Rattle.basic_toml_value.specs.View.{view}
 use Rattle.basic_toml_value.specs.declared.value.Value.{Value}
@@ -22,32 +22,22 @@ use Rattle.basic_toml_plain.proofs.WhatIsLeft.{IsMovedSoFar}
 pub element_value : (e : Element) → element_data e ≡ plain_data (out-Element e).value
 element_value e = ap (λ (p : Placed). finished p.value) (placed_is e)
 
--- the first of the elements that are left, which is smaller than all, and the others
-pub record FirstElement (e : Element) (rest all : List Element) : Type 0 where
-  pub plain : is_plain (out-Element e).value 0 ≡ true
-  pub others : are_plain 0 rest ≡ true
-  pub smaller : data_size (plain_data (out-Element e).value) < items_size (items_of (map element_data all))
-
-pub element_left : {moved : Vec Value Global} {es rest whole all : List Element} {e : Element} → es ≡ e ∷ rest
-    → whole ≡ all → IsMovedSoFar view element_data (are_plain 0) moved es whole → FirstElement e rest all
-element_left {moved} {es} {rest} {whole} {all} {e} left start so_far =
-    let p = and_parts (is_plain_element e 0) (are_plain 0 rest) (ap (are_plain 0) (sym left) ∙ so_far.fit) in
-    let made = ap (λ es. map view moved.items ++ map element_data es) (sym left) ∙ so_far.made
-    ∙ ap (map element_data) start in
-    let less = items_size-rest (map view moved.items) element_data e rest all made in
-    record {
-      plain = sym (element_is e 0) ∙ p.0;
-      others = p.1;
-      smaller = omega (arith, less, ap data_size (element_value e));
-    }
+-- the first of the elements that are left is plain, and smaller than all
+pub element_left : {moved : Vec Value Global} {es rest all : List Element} {e : Element} → es ≡ e ∷ rest
+    → IsMovedSoFar view element_data (λ e. is_plain_element e 0) moved es all
+    → (is_plain (out-Element e).value 0 ≡ true)
+    × (data_size (plain_data (out-Element e).value) < items_size (items_of (map element_data all)))
+element_left {moved} {es} {rest} {all} {e} left so_far =
+    let now = rw left at so_far in
+    let less = items_size-rest (map view moved.items) element_data e rest all now.made in (
+      sym (element_is e 0) ∙ (and_parts (is_plain_element e 0) (are_plain 0 rest) now.fit).0,
+      omega (arith, less, ap data_size (element_value e)),
+    )
 
 -- one at an index
 all_at : {A : Type 0} (p : A → Bool) (xs : List A) (i : ℕ) (x : A) → i < length xs → x ≡ get_or xs i x
     → list_all p xs ≡ true → p x ≡ true
-all_at p [] i x within read all = absurd (omega arith)
-all_at p (y ∷ ys) zero x within read all = ap p read ∙ (and_parts (p y) (list_all p ys) all).0
-all_at p (y ∷ ys) (suc i) x within read all =
-    all_at p ys i x (omega arith) read (and_parts (p y) (list_all p ys) all).1
+all_at p xs i x within read all = ap p read ∙ grind (arith, list_all_at p xs i x within, all)
 
 pub element_at : (es : List Element) (i : ℕ) (e : Element) → i < length es → e ≡ get_or es i e → are_plain 0 es ≡ true
     → is_plain (out-Element e).value 0 ≡ true

@@ -1,21 +1,21 @@
 -- Plain values and their parts: what each form of a value says of whether it is plain, and what it is seen as.
-use Rattle.std.proofs.Common.{◌≡◌, ℕ, ◌+◌, Bool, List, [], ◌∷◌, map, ap, ap₂, refl, ◌∙◌, rules, length, Vec, Global}
-use Rattle.std.specs.Prelude.{◌&&◌, nat_lt, nat_le, not}
-use Rattle.std.specs.List.{list_all}
+use Rattle.std.proofs.Common.{◌≡◌, ℕ, ◌+◌, Bool, List, [], ◌∷◌, map, ap, ap₂, refl, ◌∙◌, rules, Vec, Global}
+use Rattle.std.specs.Prelude.{◌&&◌, nat_lt, not}
 use Rattle.std.proofs.lemmas.List.{length-map}
 use Rattle.std.proofs.lemmas.List.Folds.{list_all-map}
 use Rattle.basic_toml_value.specs.Data.{Data, item, items_of}
 use Rattle.basic_toml_value.specs.Nesting.{nesting_limit}
-use Rattle.basic_toml_index.specs.Index.{few}
 use Rattle.basic_toml_index.specs.Keys.{is_among}
+use Rattle.basic_toml_grammar.specs.Sections.{Key, row}
 use Rattle.basic_toml_grammar.specs.Mentions.{finished, finished_elements}
 use Rattle.basic_toml_read.specs.declared.section.Raw.{Array, Inline, the_lemmas}
 use Rattle.basic_toml_read.specs.declared.section.Element.{Element, out-Element}
 use Rattle.basic_toml_read.specs.declared.section.Row.{Row, out-Row}
-use Rattle.basic_toml_read.specs.SectionView.{raw_of, elements_view}
+use Rattle.basic_toml_read.specs.SectionView.{Lined, raw_of, elements_view, rows_seen}
+use Rattle.basic_toml_read.proofs.NextRow.{lined_is, lone_row}
 use Rattle.basic_toml_read.proofs.ViewsSeen.{array_of}
-use Rattle.basic_toml_plain.specs.Plain.{Keyed, key_of, keyed_of, is_plain, is_plain_element, are_plain}
-use Rattle.basic_toml_plain.specs.Plain.{are_simple, are_few_simple, plain_table, plain_data, element_data}
+use Rattle.basic_toml_plain.specs.Plain.{Keyed, key_of, keyed_of, is_plain, is_plain_element, are_plain, are_simple}
+use Rattle.basic_toml_plain.specs.Plain.{are_few_simple, plain_table, plain_data, element_data}
 
 -- an element
 pub element_is : (e : Element) (l : ℕ) → is_plain_element e l ≡ is_plain (out-Element e).value l
@@ -32,19 +32,12 @@ keys_same (r ∷ rs) = ap₂ (λ (k : List ℕ) ks. k ∷ ks) (ap (λ (k : Keyed
 pub simple_step : (l : ℕ) (r : Row) (rs : List Row)
     → are_simple l (r ∷ rs)
     ≡ ((is_plain (out-Row r).value l && not (is_among (map key_of rs) (key_of r))) && are_simple l rs)
-simple_step l r rs =
-    ap (λ (k : Keyed). (k.plain l && not (is_among (map (λ (k : Keyed). k.key) (map keyed_of rs)) k.key))
-    && are_simple l rs) (keyed_is r)
-    ∙ ap (λ ks. (is_plain (out-Row r).value l && not (is_among ks (key_of r))) && are_simple l rs) (keys_same rs)
+simple_step l r rs = rw (keyed_is r, keys_same rs) refl
 
 -- an array
 pub array_is : (es : Vec Element Global) (l : ℕ)
     → is_plain (Array es) l ≡ (nat_lt l nesting_limit && are_plain (l + 1) es.items)
-array_is es l =
-    let here : is_plain (Array es) l
-    ≡ (nat_lt l nesting_limit && list_all (λ e. e (l + 1)) (map is_plain_element es.items))
-    = search (rules, the_lemmas) in
-    here ∙ ap (λ b. nat_lt l nesting_limit && b) (list_all-map (λ (e : ℕ → Bool). e (l + 1)) is_plain_element es.items)
+array_is es l = search (rules, the_lemmas, list_all-map {X = ℕ → Bool})
 
 pub elements_finished : (es : List Element) → finished_elements (elements_view es) ≡ items_of (map element_data es)
 elements_finished [] = refl
@@ -56,12 +49,17 @@ array_data es = ap finished (array_of es) ∙ ap Data.array (elements_finished e
 -- an inline table
 pub inline_is : (rs : Vec Row Global) (l : ℕ)
     → is_plain (Inline rs) l ≡ (nat_lt l nesting_limit && are_few_simple (l + 1) rs.items)
-inline_is rs l =
-    let here : is_plain (Inline rs) l
-    ≡ (nat_lt l nesting_limit && (nat_le (length (map keyed_of rs.items)) few && are_simple (l + 1) rs.items))
-    = search (rules, the_lemmas) in
-    here
-    ∙ ap (λ n. nat_lt l nesting_limit && (nat_le n few && are_simple (l + 1) rs.items)) (length-map rs.items keyed_of)
+inline_is rs l = search (rules, the_lemmas, length-map {0, 0})
 
 pub inline_of : (rs : Vec Row Global) → raw_of (Inline rs) ≡ plain_table rs.items
 inline_of rs = search (rules, the_lemmas)
+
+-- the key of a row without parents
+abbrev pub lone_key : Row → Key
+lone_key r = record { offset = (out-Row r).offset; text = key_of r }
+
+-- a row before others
+pub lone_first : (r : Row) (rs : List Row)
+    → rows_seen [] (r ∷ rs) ≡ row (lone_key r ∷ []) (out-Row r).start (raw_of (out-Row r).value) (rows_seen [] rs)
+lone_first r rs =
+    lone_row r rs ∙ ap (λ (l : Lined). row (l.key ∷ []) l.start l.value (rows_seen [] rs)) (lined_is r)

@@ -1,6 +1,6 @@
 -- The rows of an inline table with plain values: its data are their keys with the data of their values.
 use Rattle.std.proofs.Common.{◌≡◌, ◌≤◌, ℕ, length, true, false, List, [], ◌∷◌, map, Option, Some, None, refl, sym, ap}
-use Rattle.std.proofs.Common.{◌∙◌, arith, IsTrue, Vec, Global}
+use Rattle.std.proofs.Common.{◌∙◌, subst, arith, IsTrue, Vec, Global}
 use Rattle.std.specs.Prelude.{nat_le, option_map}
 use Rattle.std.specs.Str.{bytes_eq}
 use Rattle.std.proofs.lemmas.Bool.{and_parts, or_parts}
@@ -10,17 +10,15 @@ use Rattle.basic_toml_index.specs.Keys.{is_among, are_distinct}
 use Rattle.basic_toml_index.specs.declared.Index.{Index}
 use Rattle.basic_toml_value.specs.Data.{Data, member, members_of}
 use Rattle.basic_toml_value.specs.Entries.{seen, texts_of}
-use Rattle.basic_toml_value.specs.View.{view, entries}
+use Rattle.basic_toml_value.specs.View.{view}
 use Rattle.basic_toml_value.specs.declared.pairs.Pair.{Pair}
 use Rattle.basic_toml_value.specs.declared.value.Value.{Value, Table}
 use Rattle.basic_toml_grammar.specs.Entering.{and_then}
-use Rattle.basic_toml_grammar.specs.Marks.{valued}
 use Rattle.basic_toml_grammar.specs.Mentions.{finished}
 use Rattle.basic_toml_grammar.specs.Steps.{key}
 use Rattle.basic_toml_grammar.specs.Growth as growth
 use Rattle.basic_toml_grammar.specs.Standing.{Standing}
-use Rattle.basic_toml_grammar.specs.Trie.{Trie, trie, Tries, no_tries, by, among, mark_here, put_rows, with_tries}
-use Rattle.basic_toml_grammar.specs.Trie.{bare_tries}
+use Rattle.basic_toml_grammar.specs.Trie.{Trie, trie, Tries, no_tries, by, put_rows, with_tries, bare_tries}
 use Rattle.basic_toml_grammar.proofs.Tries.RowsInATrie.{rows_in, rows_go_below, inline_data}
 use Rattle.basic_toml_read.specs.declared.section.Raw.{Inline}
 use Rattle.basic_toml_read.specs.declared.section.Row.{Row}
@@ -29,8 +27,7 @@ use Rattle.basic_toml_read.proofs.RowsHaveKeys.{rows_are_keyed}
 use Rattle.basic_toml_plain.specs.Plain.{are_simple, are_few_simple, key_of, plain_data, rows_data}
 use Rattle.basic_toml_plain.specs.Tries.{by_keys, row_trie, tree_data}
 use Rattle.basic_toml_plain.specs.Values.{row_pair, section_data, value_pair}
-use Rattle.basic_toml_plain.proofs.LoneRows.{lone_first}
-use Rattle.basic_toml_plain.proofs.PlainSeen.{inline_of}
+use Rattle.basic_toml_plain.proofs.PlainSeen.{inline_of, lone_first}
 use Rattle.basic_toml_plain.proofs.PlainValues.{all_simple}
 use Rattle.basic_toml_plain.proofs.SimpleKeys.{few_are_simple, first_is_simple, keys_differ}
 use Rattle.basic_toml_plain.proofs.DataParts.{entries_seen, table_seen, value_keys}
@@ -62,10 +59,10 @@ rows_beside : (k : List ℕ) (t : Trie) (rs : List Row) (ts : Tries) → is_amon
 rows_beside k t [] ts absent = refl
 rows_beside k t (r ∷ rs) ts absent =
     let p = or_parts (bytes_eq k (key_of r)) (is_among (map key_of rs) k) absent in
-    ap (λ rows. rows_in rows (by (key k) t ts)) (lone_first r rs)
-    ∙ rw p.0 (then_mapped (λ ts. by (key k) t ts) (λ ts. rows_in (rows_seen [] rs) ts)
-    (λ us. rows_beside k t rs us p.1) (among (key (key_of r)) (λ t. mark_here (valued (row_pair r).1) t) ts))
-    ∙ sym (ap (λ rows. option_map (λ ts. by (key k) t ts) (rows_in rows ts)) (lone_first r rs))
+    subst (λ rows. rows_in rows (by (key k) t ts) ≡ option_map (λ ts. by (key k) t ts) (rows_in rows ts))
+    (sym (lone_first r rs))
+    (rw p.0 (then_mapped (λ ts. by (key k) t ts) (λ ts. rows_in (rows_seen [] rs) ts)
+    (λ us. rows_beside k t rs us p.1) _))
 
 -- rows whose keys differ stand one after another
 rows_stand : (l : ℕ) (rs : List Row) → are_simple l rs ≡ true
@@ -102,15 +99,12 @@ pub few_indexed : (copies : List (Pair Value)) (rows : List Row) (index : Index)
     → ((keys : List (List ℕ)) → IsTrue (are_distinct keys) → length keys ≤ few → IsIndex keys index)
     → are_few_simple 0 rows ≡ true → map value_pair copies ≡ map row_pair rows → IsIndex (texts_of copies) index
 few_indexed copies rows index none simple same =
-    let p = and_parts (nat_le (length rows) few) (are_simple 0 rows) simple in
+    let p = and_parts (nat_le (length rows) few) _ simple in
     let keys : texts_of copies ≡ map key_of rows = value_keys copies ∙ ap (map (λ p. p.0)) same ∙ row_keys rows in
     let at_most : length rows ≤ few = grind (arith, p.0) in
-    none (texts_of copies) (ap are_distinct keys ∙ keys_differ 0 rows p.1)
-    (omega (arith, ap length keys, length-map rows key_of, at_most))
+    rw keys (none (map key_of rows) (keys_differ 0 rows p.1) (omega (arith, length-map rows key_of)))
 
 -- and what the table of them is seen as
 pub values_seen : (table : List (List ℕ × Value)) (copies : List (Pair Value)) (rows : List Row) → table ≡ seen copies
     → map value_pair copies ≡ map row_pair rows → view (Table table) ≡ section_data rows
-values_seen table copies rows is same =
-    table_seen table ∙ ap (λ ps. Data.table (entries ps)) is
-    ∙ ap Data.table (entries_seen copies ∙ ap members_of same)
+values_seen table copies rows is same = rw (is, table_seen, entries_seen copies, same) refl

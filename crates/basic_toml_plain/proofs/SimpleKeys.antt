@@ -1,8 +1,6 @@
 -- Simple rows: what each of them is, and that their keys differ.
-use Rattle.std.proofs.Common.{◌≡◌, ◌∙◌, ℕ, Bool, true, false, not, List, [], ◌∷◌, map, length, refl, sym, ap}
-use Rattle.std.specs.Prelude.{◌&&◌, nat_le}
+use Rattle.std.proofs.Common.{◌≡◌, ◌∙◌, ℕ, Bool, true, false, not, List, [], ◌∷◌, map, refl, sym, ap}
 use Rattle.std.proofs.lemmas.Bool.{and_parts, not-true}
-use Rattle.basic_toml_index.specs.Index.{few}
 use Rattle.basic_toml_index.specs.Keys.{is_among, are_distinct}
 use Rattle.basic_toml_read.specs.declared.section.Row.{Row, out-Row}
 use Rattle.basic_toml_plain.specs.Plain.{key_of, is_plain, are_simple, are_few_simple, are_all_plain}
@@ -16,10 +14,9 @@ pub record FirstIsSimple (l : ℕ) (r : Row) (rs : List Row) : Type 0 where
 
 pub first_is_simple : (l : ℕ) (r : Row) (rs : List Row) → are_simple l (r ∷ rs) ≡ true → FirstIsSimple l r rs
 first_is_simple l r rs simple =
-    let here = is_plain (out-Row r).value l && not (is_among (map key_of rs) (key_of r)) in
-    let a = and_parts here (are_simple l rs) (sym (simple_step l r rs) ∙ simple) in
-    let b = and_parts (is_plain (out-Row r).value l) (not (is_among (map key_of rs) (key_of r))) a.0 in
-    record { plain = b.0; apart = not-true (is_among (map key_of rs) (key_of r)) b.1; others = a.1 }
+    let a = and_parts _ _ (sym (simple_step l r rs) ∙ simple) in
+    let b = and_parts _ _ a.0 in
+    record { plain = b.0; apart = not-true _ b.1; others = a.1 }
 
 pub keys_differ : (l : ℕ) (rows : List Row) → are_simple l rows ≡ true → are_distinct (map key_of rows) ≡ true
 keys_differ l [] simple = refl
@@ -32,8 +29,8 @@ pub simple_from_plain : (l : ℕ) (rows : List Row) → are_all_plain l rows ≡
     → are_distinct (map key_of rows) ≡ true → are_simple l rows ≡ true
 simple_from_plain l [] plain distinct = refl
 simple_from_plain l (r ∷ rs) plain distinct =
-    let a = and_parts (is_plain (out-Row r).value l) (are_all_plain l rs) plain in
-    let b = and_parts (not (is_among (map key_of rs) (key_of r))) (are_distinct (map key_of rs)) distinct in
+    let a = and_parts (is_plain (out-Row r).value l) _ plain in
+    let b = and_parts (not (is_among (map key_of rs) (key_of r))) _ distinct in
     simple_step l r rs ∙ rw (a.0, b.0) (simple_from_plain l rs a.1 b.1)
 
 -- and simple rows are plain
@@ -50,7 +47,7 @@ few_seen l rows seen looked same is simple = ap (are_few_simple l) (sym same) �
 
 -- few and simple rows
 pub few_are_simple : (l : ℕ) (rows : List Row) → are_few_simple l rows ≡ true → are_simple l rows ≡ true
-few_are_simple l rows are = (and_parts (nat_le (length rows) few) (are_simple l rows) are).1
+few_are_simple l rows are = (and_parts _ _ are).1
 
 pub few_are_plain : (l : ℕ) (rows : List Row) → are_few_simple l rows ≡ true → are_all_plain l rows ≡ true
 few_are_plain l rows are = simple_are_plain l rows (few_are_simple l rows are)
@@ -58,7 +55,7 @@ few_are_plain l rows are = simple_are_plain l rows (few_are_simple l rows are)
 -- the first of plain rows, and the others
 pub first_plain : (l : ℕ) (r : Row) (rs : List Row) → are_all_plain l (r ∷ rs) ≡ true
     → is_plain (out-Row r).value l ≡ true
-first_plain l r rs plain = (and_parts (is_plain (out-Row r).value l) (are_all_plain l rs) plain).0
+first_plain l r rs plain = (and_parts _ _ plain).0
 
 pub others_plain : (l : ℕ) (r : Row) (rs : List Row) → are_all_plain l (r ∷ rs) ≡ true → are_all_plain l rs ≡ true
-others_plain l r rs plain = (and_parts (is_plain (out-Row r).value l) (are_all_plain l rs) plain).1
+others_plain l r rs plain = (and_parts _ _ plain).1

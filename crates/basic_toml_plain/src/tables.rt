@@ -1,6 +1,6 @@
 //! The tables of an array of tables, as their rows were read.
 
-ghost use Rattle.std.specs.Prelude.{◌≡◌, ◌≤◌, ◌++◌, ◌∷◌, [], true, IfOk, IfSome, MatchOption, length, slice_get, Some, drop};
+ghost use Rattle.std.specs.Prelude.{◌≡◌, ◌≤◌, ◌++◌, ◌∷◌, [], true, IfErr, IfOk, IfSome, MatchOption, length, slice_get, Some, drop};
 ghost use Rattle.basic_toml_plain.specs.Plain.{are_few_simple};
 ghost use Rattle.basic_toml_plain.specs.PlainTables.{are_parts, parts, with_table, tables_in};
 
@@ -42,6 +42,10 @@ impl<'de> Model for PlainTables<'de> {
 
 impl<'de> PlainTables<'de> {
     /// An array of one table, which takes few simple rows.
+    ///
+    /// # Errors
+    ///
+    /// `AllocError` where memory was refused. The rows may be gone then.
     pub fn new(
         alloc: Global,
         rows: &mut Vec<Row<'de>>,
@@ -65,11 +69,16 @@ impl<'de> PlainTables<'de> {
     }
 
     /// Adds a table, which takes few simple rows.
+    ///
+    /// # Errors
+    ///
+    /// `AllocError` where memory was refused. No table is added then, and the rows stay.
     #[inline(always)]
     pub fn push(&mut self, rows: &mut Vec<Row<'de>>, section: usize) -> Result<(), AllocError>
         requires { are_few_simple 0 rows.old.items ≡ true }
         ensures tables { IfOk result (λ _. self.new ≡ with_table self.old (section, rows.old.items)) }
         ensures taken { IfOk result (λ _. rows.new.items ≡ []) }
+        ensures refused { IfErr result (λ _. (self.new ≡ self.old) × (rows.new.items ≡ rows.old.items)) }
     {
         let start = self.rows.len();
         let count = rows.len();
@@ -86,7 +95,8 @@ impl<'de> PlainTables<'de> {
 
     /// Takes all tables out of it, and leaves one without rows.
     pub fn take(&mut self, alloc: Global) -> PlainTables<'de>
-        ensures { result ≡ self.old }
+        ensures taken { result ≡ self.old }
+        ensures left { self.new ≡ ([], (0, [])) }
     {
         mem::replace(
             self,

@@ -2,7 +2,8 @@ use Rattle.std.proofs.Common.{◌+◌, ◌*◌, map}
 use Rattle.basic_toml_value.specs.Data.{items_of}
 use Rattle.basic_toml_value.specs.View.{view}
 use Rattle.basic_toml_value.proofs.Sizes.{data_size, items_size}
-use Rattle.basic_toml_plain.specs.Plain.{are_plain, are_simple, plain_data, element_data, rows_data}
+use Rattle.basic_toml_read.specs.declared.section.Row.{out-Row}
+use Rattle.basic_toml_plain.specs.Plain.{is_plain, is_plain_element, plain_data, element_data, rows_data}
 use Rattle.basic_toml_plain.specs.Values.{value_pair, row_pair}
 use Rattle.basic_toml_plain.proofs.WhatIsLeft.{IsMovedSoFar}
 use Rattle.basic_toml_plain.proofs.values.+moves.Given as goal
@@ -25,14 +26,14 @@ decreases-into_plain_entries l = 3 * data_size (rows_data l.rows.items)
 -- the values of the elements passed are moved, in order, and the others are left, which are plain
 abbrev pub invariant-into_many-loop-element : goal.invariant-into_many-loop-element
 invariant-into_many-loop-element l =
-    IsMovedSoFar view element_data (are_plain 0) l.moved l.element-iterator l.initial.element-iterator
+    IsMovedSoFar view element_data (λ e. is_plain_element e 0) l.moved l.element-iterator l.fn.elements.items
 
 abbrev pub invariant-into_plain_values-loop-element : goal.invariant-into_plain_values-loop-element
 invariant-into_plain_values-loop-element l =
-    IsMovedSoFar view element_data (are_plain 0) l.moved l.element-iterator.rest.items
-    l.initial.element-iterator.rest.items
+    IsMovedSoFar view element_data (λ e. is_plain_element e 0) l.moved l.element-iterator.rest.items l.fn.elements.items
 
 -- the same of rows
 abbrev pub invariant-into_plain_entries-loop-row : goal.invariant-into_plain_entries-loop-row
 invariant-into_plain_entries-loop-row l =
-    IsMovedSoFar value_pair row_pair (are_simple 0) l.moved l.row-iterator.rest.items l.initial.row-iterator.rest.items
+    IsMovedSoFar value_pair row_pair (λ r. is_plain (out-Row r).value 0) l.moved l.row-iterator.rest.items
+    l.fn.rows.items

@@ -1,48 +1,27 @@
-use Rattle.std.proofs.Common.{◌≡◌, List, ℕ, suc, ◌+◌, ◌-◌, ◌++◌, ap, ap₂, sym, ◌∙◌, map, length, take, drop, arith}
-use Rattle.basic_toml_value.specs.Data.{Data}
-use Rattle.basic_toml_plain.specs.Plain.{are_all_plain}
+use Rattle.std.proofs.Common.{◌≡◌, append_assoc, suc, ◌+◌, ◌-◌, arith}
+use Rattle.std.proofs.lemmas.List.{map_push}
 use Rattle.basic_toml_plain.proofs.SimpleKeys.{first_plain, others_plain}
-use Rattle.basic_toml_plain.proofs.WhatIsLeft.{mapped_next}
-use Rattle.basic_toml_plain.specs.Values.{value_pair, row_pair}
+use Rattle.basic_toml_plain.specs.Values.{value_pair}
 use Rattle.basic_toml_plain.proofs.values.first_plain_entries.Goals as goal
 
-pub loop-init : goal.loop-init
-loop-init c =
-    let all : c.args.count - 0 ≡ c.args.count = omega arith in
-    let made = c.in_ok-moved.ensures in record {
-      entered = ap₂ (λ ps n. map value_pair ps ++ map row_pair (take n c.args.rows.now)) made.items all;
-      left = ap (λ n. drop n c.args.rows.now) all;
-      within = omega (arith, c.requires.within);
-      plain = c.requires.plain;
-      room = omega (arith, made.capacity, made.len);
-    }
-
--- a row is left, since so many are
-pub unreachable-requires : goal.unreachable-requires
-unreachable-requires c =
-    let none = ap length c.in_default.ensures.steps.0 in
-    omega (arith, none, c.loop.invariant.within, c.loop-test.true)
-
 pub into_plain_value-requires : goal.into_plain_value-requires
-into_plain_value-requires c =
-    first_plain 0 c.in-Some.row c.next.new.self
-    (ap (are_all_plain 0) (sym c.in-Some.ensures.steps) ∙ c.loop.invariant.plain)
+into_plain_value-requires c = first_plain 0 c.in-Some.row _ (rw c.in-Some.ensures.steps at c.loop.invariant.plain)
 
 pub loop-preserved : goal.loop-preserved
 loop-preserved c =
-    let first = c.in-Some.ensures.steps in
-    let next : c.args.count - c.loop.counter ≡ suc (c.args.count - (c.loop.counter + 1)) =
-    omega (arith, c.loop-test.true) in
-    let shorter = ap length first in record {
-      entered = mapped_next value_pair row_pair c.loop.moved.items c.push_reserved.new.self.items
-          (take (c.args.count - c.loop.counter) c.loop.rows)
-          (take (c.args.count - (c.loop.counter + 1)) c.next.new.self) (take c.args.count c.args.rows.now)
-          (record { key = c.in_ok-key.key; value = c.in_ok-value.value }) c.in-Some.row
-          (ap₂ (λ n rows. take n rows) next first) c.push_reserved.ensures.items c.loop.invariant.entered
-          (ap₂ (λ (k : List ℕ) (d : Data). (k, d)) (c.in_ok-key.ensures.ok ∙ c.as_str.ensures.value)
-          c.in_ok-value.ensures);
-      left = sym (ap₂ (λ n rows. drop n rows) next first) ∙ c.loop.invariant.left;
-      within = omega (arith, shorter, c.loop.invariant.within, next);
-      plain = others_plain 0 c.in-Some.row c.next.new.self (ap (are_all_plain 0) (sym first) ∙ c.loop.invariant.plain);
-      room = omega (arith, c.loop.invariant.room, next, c.push_reserved.ensures.len, c.push_reserved.ensures.capacity);
+    let next : c.args.count - c.loop.counter ≡ suc (c.args.count - (c.loop.counter + 1)) = omega arith in
+    let so_far = rw (next, c.in-Some.ensures.steps) at c.loop.invariant in
+    let pushed = c.push_reserved.ensures in record {
+      entered = rw (
+        pushed.items,
+        map_push value_pair,
+        append_assoc,
+        c.in_ok-key.ensures.ok,
+        c.as_str.ensures.value,
+        c.in_ok-value.ensures,
+      ) so_far.entered;
+      left = so_far.left;
+      within = omega arith;
+      plain = others_plain 0 c.in-Some.row _ so_far.plain;
+      room = omega arith;
     }

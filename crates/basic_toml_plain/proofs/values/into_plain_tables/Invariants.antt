@@ -8,7 +8,8 @@ use Rattle.basic_toml_plain.proofs.values.into_plain_tables.Given as goal
 -- the tables passed are moved, in order, the rows of the others are left, and there is room for them and the latest
 abbrev pub invariant-loop-own : goal.invariant-loop-own
 invariant-loop-own l = record {
-  made : map view l.moved.items ++ map (λ t. section_data t.1) (parts l.rows (l.own-iterator.rest.items ++ l.latest ∷ []))
+  made : map view l.moved.items
+      ++ map (λ t. section_data t.1) (parts l.rows (l.own-iterator.rest.items ++ l.latest ∷ []))
       ≡ map (λ t. section_data t.1) (parts l.initial.rows (l.initial.own-iterator.rest.items ++ l.latest ∷ []));
   left : (at : ℕ) × (are_parts at l.rows (l.own-iterator.rest.items ++ l.latest ∷ []) ≡ true);
   room : suc (vec_len l.moved + length l.own-iterator.rest.items) ≤ vec_capacity l.moved;

@@ -1,11 +1,8 @@
-use Rattle.std.proofs.Common.{◌≡◌, ◌+◌, ◌-◌, ◌<◌, ◌++◌, ◌∷◌, [], List, Some, length, take, drop, get_or, slice_get}
-use Rattle.std.proofs.Common.{refl, ap, ap₂, sym, ◌∙◌, arith}
+use Rattle.std.proofs.Common.{◌≡◌, ◌+◌, ◌-◌, ◌<◌, ◌++◌, ◌∷◌, [], length, get_or, refl, ap, sym, arith}
 use Rattle.std.proofs.Math.Seq.{get_or-append_seam}
 use Rattle.std.proofs.lemmas.Bool.{ltb-true, ltb-false}
 use Rattle.std.proofs.lemmas.List.{get_or_append_left, length_push}
 use Rattle.std.proofs.lemmas.Option.{slice_get_read}
-use Rattle.basic_toml_read.specs.declared.section.Row.{Row}
-use Rattle.basic_toml_plain.specs.Plain.{are_few_simple}
 use Rattle.basic_toml_plain.proofs.PartsOfRows.{StandsAt, all_tables, stands_at, tables_count}
 use Rattle.basic_toml_plain.proofs.tables.PlainTables.get.Goals.{After-deref-2, then-at-len, else-at-len+in_ok-own}
 use Rattle.basic_toml_plain.proofs.tables.PlainTables.get.Goals as goal
@@ -23,36 +20,33 @@ own_stands c =
     let there : (c.args.at < length all) × (own ≡ get_or all c.args.at own) =
     elim c.if-at-len.branch [
       | then-at-len w ↦
-          let at : c.args.at ≡ length ss = omega (arith, w.if-at-len.true, c.len.ensures, c.self.inside.earlier.ok.0) in
+          let at : c.args.at ≡ length ss = omega arith in
           let latest = get_or-append_seam ss s [] own in
-          (omega (arith, at, count), cc (w.own-is))
+          (omega arith, cc (w.own-is))
       | else-at-len+in_ok-own w ↦
           let lookup = w.in_ok-own.ensures.lookup in
           let past = ltb-true c.args.at (length w.deref.result.now) (sym lookup.0) in
-          let within : c.args.at < length ss = omega (arith, past, ap length w.deref.ensures.value) in
+          let within : c.args.at < length ss = omega (arith, ap length w.deref.ensures.value) in
           let earlier = get_or_append_left ss (s ∷ []) own c.args.at within in
-          (omega (arith, within, count), cc (w.own-is, lookup.1, w.deref.ensures.value))
+          (omega arith, cc (w.own-is, lookup.1, w.deref.ensures.value))
     ] in
     stands_at 0 c.self.inside.rows.items all c.args.at own c.self.invariant
     (slice_get_read all (length all) c.args.at own refl there.0 there.1)
 
 pub returns-in_err-own-clause-table : goal.returns-in_err-own-clause-table
 returns-in_err-own-clause-table c =
-    let inside = c.self.inside in
     let count = tables_count _ _ _ _ c.self.invariant c.self.view_is in
     let past = ltb-false c.args.at (length c.deref.result.now) (sym c.in_err-own.ensures.lookup.0) in
-    rw c.from_residual.ensures
-    (omega (arith, count, c.len.ensures, inside.earlier.ok.0, ap length c.deref.ensures.value, past, c.if-at-len.false))
+    rw c.from_residual.ensures (omega (arith, ap length c.deref.ensures.value))
 
 pub overflow_add-result : goal.overflow_add-result
-overflow_add-result c = omega (arith, (own_stands c).start, (own_stands c).within, c.self.inside.rows.ok.0)
+overflow_add-result c = let own = own_stands c in omega arith
 
 pub offset_bounds-deref-own : goal.offset_bounds-deref-own
-offset_bounds-deref-own c = omega (arith, (own_stands c).start, (own_stands c).within, c.self.inside.rows.ok.0)
+offset_bounds-deref-own c = let own = own_stands c in omega arith
 
 pub slice_bounds-result-end : goal.slice_bounds-result-end
-slice_bounds-result-end c =
-    omega (arith, (own_stands c).start, (own_stands c).within, ap length c.deref-2.ensures.value)
+slice_bounds-result-end c = let own = own_stands c in omega (arith, ap length c.deref-2.ensures.value)
 
 pub returns : goal.returns
 returns c =
@@ -60,11 +54,8 @@ returns c =
     let own = own_stands (goal.at.returns c).After-deref-2 in
     let start : s.start ≡ own.from = omega (arith, own.start) in
     let count : s.start + s.count - s.start ≡ s.count = omega arith in
-    let rows = ap₂ take count (ap₂ drop start c.deref-2.ensures.value) in
     record {
       table =
-          ap (λ ts. slice_get ts c.args.at) (sym (all_tables _ _ _ _ c.self.invariant c.self.view_is))
-          ∙ own.table
-          ∙ ap (λ (rows : List Row). Some (s.section, rows)) (sym rows);
-      plain = ap (are_few_simple 0) rows ∙ own.few;
+          rw (c.deref-2.ensures.value, count, start, ← all_tables _ _ _ _ c.self.invariant c.self.view_is) own.table;
+      plain = rw (c.deref-2.ensures.value, count, start) own.few;
     }

@@ -5,4 +5,4 @@ use Rattle.basic_toml_plain.proofs.tables.PlainTables.len.Goals as goal
 pub returns : goal.returns
 returns c =
     let count = tables_count _ _ _ _ c.self.invariant c.self.view_is in
-    omega (arith, count, c.len.ensures, c.self.inside.earlier.ok.0)
+    omega arith
