@@ -43,13 +43,12 @@ invariant-into_elements-loop-child l =
 -- and there is room for them
 abbrev pub invariant-into_tables-loop-table : goal.invariant-into_tables-loop-table
 invariant-into_tables-loop-table l =
-    IsMovedSoFar view table_data (λ ts. true) l.elements l.table-iterator l.initial.table-iterator
+    IsMovedSoFar view table_data (λ t. true) l.elements l.table-iterator l.fn.tables.items
 
 abbrev pub invariant-into_many_entries-loop-pair : goal.invariant-into_many_entries-loop-pair
 invariant-into_many_entries-loop-pair l =
-    IsMovedSoFar value_pair child_pair (λ ps. true) l.moved l.pair-iterator l.initial.pair-iterator
+    IsMovedSoFar value_pair child_pair (λ p. true) l.moved l.pair-iterator l.fn.pairs.items
 
 abbrev pub invariant-into_entries-loop-pair : goal.invariant-into_entries-loop-pair
 invariant-into_entries-loop-pair l =
-    IsMovedSoFar value_pair child_pair (λ ps. true) l.moved l.pair-iterator.rest.items
-    l.initial.pair-iterator.rest.items
+    IsMovedSoFar value_pair child_pair (λ p. true) l.moved l.pair-iterator.rest.items l.fn.pairs.items
