@@ -69,10 +69,10 @@ one_more from (g ∷ hs) keys more h rise end =
     let kept = take-append-le (g.end - from) (drop from keys) more (omega (arith, length-drop from keys, within)) in
     rw (begun, kept, one_more g.end hs keys more h rise.1 end) refl
 
-pub rises_on : (from : ℕ) (hs : List Head) (all : ℕ) (h : Head) → EndsRise from hs all → all ≤ h.end
-    → EndsRise from (hs ++ h ∷ []) h.end
-rises_on from [] all h rise on = (omega (arith, rise, on), refl)
-rises_on from (g ∷ hs) all h rise on = (rise.0, rises_on g.end hs all h rise.1 on)
+pub rises_on : (from : ℕ) (hs : List Head) (keys more : List code.Key) (h : Head)
+    → EndsRise from hs (length keys) → h.end ≡ length (keys ++ more) → EndsRise from (hs ++ h ∷ []) h.end
+rises_on from [] keys more h rise end = (omega (arith, rise, end, length-append keys more), refl)
+rises_on from (g ∷ hs) keys more h rise end = (rise.0, rises_on g.end hs keys more h rise.1 end)
 
 -- where the last one begins
 pub last_is_last : (from : ℕ) (hs : List Head) (keys : List code.Key) (h : Head)

@@ -56,24 +56,24 @@ keeps_more m st h f p k (next a) =
 -- marks that were taken: they are kept, and there are no others
 record Ran (st ms after : List Mark) : Type 0 where
   keep : Keeps after
-  stays : {m : Mark} → Among m st → Among m after
-  joins : {m : Mark} → Among m ms → Among m after
+  joins : {m : Mark} → Among m st ⊎ Among m ms → Among m after
   made : {m : Mark} → Among m after → Among m st ⊎ Among m ms
 
 ran : (st ms after : List Mark) → Keeps st → take_all st ms ≡ Some after → Ran st ms after
 ran st [] after h e = let same : st ≡ after = cc in
-    rw (← same) (record { keep = h; stays = λ a. a; joins = λ a. elim a [ ]; made = λ a. inl a })
+    rw (← same) (record { keep = h; joins = λ a. elim a [ inl a ↦ a | inr a ↦ elim a [ ] ]; made = λ a. inl a })
 ran st (m ∷ ms) after h e = elim (cases_Bool (fits m.kind (standing_at st m.path))) [
   | inl f ↦ more (ran (m ∷ st) ms after (keeps_more m st h f) (rw f at e))
   | inr f ↦ absurd (cc (rw f at e))
 ]
   where
     more : Ran (m ∷ st) ms after → Ran st (m ∷ ms) after
-    more r = record { keep = r.keep; stays = λ a. r.stays (next a); joins = λ a. join a; made = λ a. from (r.made a) }
+    more r = record { keep = r.keep; joins = λ a. join a; made = λ a. from (r.made a) }
       where
-        join : {x : Mark} → Among x (m ∷ ms) → Among x after
-        join first = r.stays first
-        join (next a) = r.joins a
+        join : {x : Mark} → Among x st ⊎ Among x (m ∷ ms) → Among x after
+        join (inl a) = r.joins (inl (next a))
+        join (inr first) = r.joins (inl first)
+        join (inr (next a)) = r.joins (inr a)
 
         from : {x : Mark} → Among x (m ∷ st) ⊎ Among x ms → Among x st ⊎ Among x (m ∷ ms)
         from (inl first) = inr first
@@ -140,9 +140,6 @@ says_added : (n : ℕ) (rs : Rows) (t : Path) → Says (Some n) rs t t added
 says_added n rs [] = adds
 says_added n rs (s ∷ t) = on (says_added n rs t)
 
-element_there : (p : Path) (n : ℕ) → goes_into p (p ++ number n ∷ []) ≡ true
-element_there p n = rw (begins_itself p (number n ∷ []), drop-append_seam p (number n ∷ [])) refl
-
 mapped_any : {A B : Type 0} (f : B → Bool) (g : A → B) (xs : List A)
     → list_any f (map g xs) ≡ list_any (λ x. f (g x)) xs
 mapped_any f g [] = refl
@@ -155,11 +152,10 @@ same_paths f ss =
 
 -- a list of sections that was entered
 module _ (ss : List Section) (st : List Mark) (e : enter_all ss [] ≡ Some st) where
-  all_taken : take_all [] (all_marks (placed ss)) ≡ Some st
-  all_taken = grind (arith, enter_all_grows ss [] [] (λ p. refl) (λ p. refl), e)
-
   run : Ran [] (all_marks (placed ss)) st
-  run = ran [] (all_marks (placed ss)) st (λ p k a. elim a [ ]) all_taken
+  run =
+      ran [] (all_marks (placed ss)) st (λ p k a. elim a [ ])
+      (grind (arith, enter_all_grows ss [] [] (λ p. refl) (λ p. refl), e))
 
   -- a section that says something of a path
   record Saying (p : Path) (k : MarkKind) : Type 0 where
@@ -170,7 +166,7 @@ module _ (ss : List Section) (st : List Mark) (e : enter_all ss [] ≡ Some st) 
   kept : {p : Path} {k : MarkKind} → Saying p k → keeps k (standing_at st p) ≡ true
   kept {p = p} {k = k} x =
       let l = x.place in
-      run.keep p k (run.joins (among_all (placed ss) x.among (marked l.element l.rows l.target x.says)))
+      run.keep p k (run.joins (inr (among_all (placed ss) x.among (marked l.element l.rows l.target x.says))))
 
   saying : {p : Path} {k : MarkKind} → Among (mark p k) st → Saying p k
   saying a = elim (run.made a) [
@@ -185,8 +181,13 @@ module _ (ss : List Section) (st : List Mark) (e : enter_all ss [] ≡ Some st) 
 
   array_kept : {p : Path} → Added (placed ss) p → lasts true (standing_at st p) ≡ true
   array_kept {p = p} k =
-      let here : Says k.0.element k.0.rows k.0.target p added = rw (k.3, k.4) (says_added k.1 k.0.rows p) in
-      kept (record { place = k.0; among = k.2; says = here })
+      kept {k = added}
+      (record { place = k.0; among = k.2; says = rw (k.3, k.4) (says_added k.1 k.0.rows p) })
+
+  array_lasts : {p : Path} (k : MarkKind) → of_array k ≡ true → Saying p k → lasts true (standing_at st p) ≡ true
+  array_lasts added h x = kept x
+  array_lasts by_latest h x = array_kept (added_there x)
+  array_lasts k h x = absurd (false≢true h)
 
   lasts_made : (a : Bool) (o : Option Standing) → lasts a o ≡ true → stands_made o ≡ true
   lasts_made a o h = grind arith
@@ -194,9 +195,7 @@ module _ (ss : List Section) (st : List Mark) (e : enter_all ss [] ≡ Some st) 
   header_made : {p : Path} (k : MarkKind) → is_header k ≡ true → Saying p k → stands_made (standing_at st p) ≡ true
   header_made {p = p} passed h x = lasts_made false (standing_at st p) (kept x)
   header_made {p = p} named h x = lasts_made false (standing_at st p) (kept x)
-  header_made {p = p} added h x = lasts_made true (standing_at st p) (kept x)
-  header_made {p = p} by_latest h x = lasts_made true (standing_at st p) (array_kept (added_there x))
-  header_made k h x = absurd (false≢true h)
+  header_made {p = p} k h x = lasts_made true (standing_at st p) (array_lasts k h x)
 
   on_the_way : {p : Path} (k : MarkKind) → is_header k ≡ true → Saying p k
       → list_any (λ l. begins p (path_of l)) (placed ss) ≡ true
@@ -229,22 +228,20 @@ module _ (ss : List Section) (st : List Mark) (e : enter_all ss [] ≡ Some st) 
   array_stands : (o : Option Standing) → lasts true o ≡ true → stands_array o ≡ true
   array_stands o h = grind arith
 
-  array_said : {p : Path} (k : MarkKind) → of_array k ≡ true → Saying p k → stands_array (standing_at st p) ≡ true
-  array_said {p = p} added h x = array_stands (standing_at st p) (kept x)
-  array_said {p = p} by_latest h x = array_stands (standing_at st p) (array_kept (added_there x))
-  array_said k h x = absurd (false≢true h)
-
   array_forth : (p : Path) → list_any (λ l. goes_into p (path_of l)) (placed ss) ≡ true
       → stands_array (standing_at st p) ≡ true
   array_forth p h =
       let l = any_of (λ l. goes_into p (path_of l)) (placed ss) h in
       let both = and_parts (begins p (path_of l.0)) (is_number (drop (length p) (path_of l.0))) l.2 in
       let x = way_said l.0.element l.0.rows l.0.target p both.0 in
-      array_said x.kind (x.array both.1) (record { place = l.0; among = l.1; says = x.says })
+      array_stands (standing_at st p)
+      (array_lasts x.kind (x.array both.1) (record { place = l.0; among = l.1; says = x.says }))
 
   added_into : {p : Path} → Added (placed ss) p → list_any (λ l. goes_into p (path_of l)) (placed ss) ≡ true
   added_into {p = p} k =
-      of_any (λ l. goes_into p (path_of l)) k.2 (rw (k.3, k.4) (element_there p k.1))
+      let last : Path = number k.1 ∷ [] in
+      of_any (λ l. goes_into p (path_of l)) k.2
+      (rw (k.3, k.4, begins_itself p last, drop-append_seam p last) refl)
 
   adds_some : (e : Option ℕ) → adds_element e ≡ true → (n : ℕ) × (e ≡ Some n)
   adds_some None h = absurd (false≢true h)

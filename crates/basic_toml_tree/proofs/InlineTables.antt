@@ -71,11 +71,9 @@ raw_no_elements v plain other = go (raws.out-Raw v) (sym (raws.roll-out-Raw v))
   where
     go : (x : Raw-F raws.Raw Element Row Rows) → v ≡ raws.roll-Raw x → elements_in (plain_data v) ≡ []
     go (Raw-F.Array z) is =
-        let made : raws.roll-Raw (Raw-F.Array z) ≡ raws.Array z = search (rules, raws.the_lemmas) in
-        absurd (other z (is ∙ made))
+        absurd (other z (is ∙ search (rules, raws.the_lemmas)))
     go (Raw-F.Inline z) is =
-        let made : raws.roll-Raw (Raw-F.Inline z) ≡ raws.Inline z = search (rules, raws.the_lemmas) in
-        no_elements (plain_data v) (raw_is_table v z (is ∙ made))
+        no_elements (plain_data v) (raw_is_table v z (is ∙ search (rules, raws.the_lemmas)))
     go (Raw-F.Dotted z) is =
         let not_plain : is_plain (raws.roll-Raw (Raw-F.Dotted z)) 0 ≡ false = search (rules, raws.the_lemmas) in
         absurd (cc not_plain)

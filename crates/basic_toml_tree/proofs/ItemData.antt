@@ -47,9 +47,7 @@ pairs_seen (p ∷ ps) = ap (λ l. child_pair p ∷ l) (pairs_seen ps)
 pub table_of_pairs : (t : Table) (pairs : List (Pair Child)) → seen pairs ≡ (out-Table t).entries
     → table_data t ≡ Data.table (members_of (map child_pair pairs))
 table_of_pairs t pairs same =
-    table_members t
-    ∙ ap (λ ps. Data.table (members_of (map (λ p. (p.0, child_data p.1)) ps))) (sym same)
-    ∙ ap (λ ps. Data.table (members_of ps)) (pairs_seen pairs)
+    rw (table_members t, ← same, pairs_seen pairs) refl
 
 -- where memory is refused to a table that has entries or rows, it holds something
 none_mapped : {A : Type 0} (f : A → List ℕ × Data) (xs : List A) → members_of (map f xs) ≡ no_members
@@ -129,9 +127,8 @@ data_among-members (p ∷ ps) key = ap (cond (bytes_eq key p.0) (Some p.1)) (dat
 data_at_key : (t : Table) (key : List ℕ)
     → data_at (table_data t) key ≡ option_map child_data (value_at (out-Table t).entries key)
 data_at_key t key =
-    ap (λ d. data_at d key) (table_members t)
-    ∙ data_among-members (map (λ p. (p.0, child_data p.1)) (out-Table t).entries) key
-    ∙ value_at-map child_data (out-Table t).entries key
+    rw (table_members t) (data_among-members (map (λ p. (p.0, child_data p.1)) (out-Table t).entries) key
+    ∙ value_at-map child_data (out-Table t).entries key)
 
 pub data_at_found : (t : Table) (key : List ℕ) (c : Child) → value_at (out-Table t).entries key ≡ Some c
     → data_at (table_data t) key ≡ Some (child_data c)

@@ -1,19 +1,17 @@
 -- What is answered to a list holds of it in each other order.
-use Rattle.std.proofs.Common.{◌≡◌, inl, inr, ◌<◌, ◌≤◌, true, false, List, map, refl, sym, ◌∙◌}
-use Rattle.std.proofs.Common.{arith, None, Result, Ok, Err}
+use Rattle.std.proofs.Common.{◌≡◌, inl, inr, ◌<◌, ◌≤◌, true, false, List, map, refl, sym, ◌∙◌, arith, Result, Ok, Err}
 use Rattle.std.proofs.lemmas.Bool.{cases_Bool, le-leb}
 use Rattle.basic_toml_value.specs.Nesting.{nesting_limit}
 use Rattle.basic_toml_grammar.specs.Sections.{Section}
 use Rattle.basic_toml_grammar.specs.Depth.{depth}
-use Rattle.basic_toml_grammar.specs.Document.{has_clash, tree_of_sections, document_of}
+use Rattle.basic_toml_grammar.specs.Document.{has_clash, tree_of_sections}
 use Rattle.basic_toml_grammar.specs.Entering.{all_keyed, all_keyed_within}
 use Rattle.basic_toml_grammar.specs.Faults.{Fault}
 use Rattle.basic_toml_grammar.specs.Statements.{MeanTheSame}
 use Rattle.basic_toml_grammar.proofs.Nesting.DepthIsTheHighestLevel.{deep_where_one_is}
 use Rattle.basic_toml_grammar.proofs.Naming.EveryClashIsNamed.{named_clashes}
-use Rattle.basic_toml_grammar.proofs.SameMeaning.ReorderedMeanTheSame.{reordered_means_the_same}
+use Rattle.basic_toml_grammar.proofs.SameMeaning.ReorderedMeanTheSame.{reordered_means_the_same, same_maps_are_as_deep}
 use Rattle.basic_toml_grammar.proofs.SameMeaning.ReorderedMeanTheSame.{plain_reordered_means_the_same}
-use Rattle.basic_toml_grammar.proofs.SameMeaning.ReorderedMeanTheSame.{same_maps_are_as_deep}
 use Rattle.basic_toml_read.specs.declared.section.Section as code
 use Rattle.basic_toml_read.specs.SectionView.{section_of}
 use Rattle.basic_toml_tree.specs.declared.tree.Tree.{Tree}
@@ -21,11 +19,6 @@ use Rattle.basic_toml_tree.specs.Order.{IsReordering, IsRefusedToo, IsAnswerToo,
 use Rattle.basic_toml_tree.specs.Resolve.{Resolves, IsResolved, IsUnresolved, memory, refused}
 use Rattle.basic_toml_tree.proofs.SectionsStopped.{fault_is_named}
 use Rattle.basic_toml_read.proofs.RowsHaveKeys.{sections_have_keys}
-
--- where the tree of sections is too deep, they have no document
-deep_has_none : (sections : List Section) → nesting_limit < depth (tree_of_sections sections)
-    → document_of sections ≡ None
-deep_has_none sections over = grind arith
 
 -- sections, with keys and without, that mean the same as others
 module _ (sections others : List Section) (same : MeanTheSame sections others) where
@@ -37,9 +30,7 @@ module _ (sections others : List Section) (same : MeanTheSame sections others) w
       rw (peace, le-leb (depth (tree_of_sections others)) nesting_limit fits, is.grown) maps
 
   clash_too : (fault : Fault) → has_clash sections ≡ true → IsRefusedToo sections fault others
-  clash_too fault met =
-      let there : has_clash others ≡ true = sym same.clash ∙ met in
-      record { none = rw there refl; clash = λ names. there }
+  clash_too fault met = record { none = rw (← same.clash, met) refl; clash = λ names. sym same.clash ∙ met }
 
   too_deep_too : (fault : Fault) → (has_clash sections ≡ false → nesting_limit < depth (tree_of_sections sections))
       → IsRefusedToo sections fault others
@@ -49,7 +40,7 @@ module _ (sections others : List Section) (same : MeanTheSame sections others) w
         let there : nesting_limit < depth (tree_of_sections others) =
         rw (same_maps_are_as_deep _ _ (same.maps peace)) at (over peace) in
         record {
-          none = deep_has_none others there;
+          none = grind (arith, there);
           clash = λ names. sym same.clash ∙ named_clashes sections fault names;
         }
   ]

@@ -1,7 +1,6 @@
 -- The data of the rows of a section, and of the table that they stand for.
-use Rattle.std.proofs.Common.{◌≡◌, ℕ, true, List, ap, sym, ◌∙◌, rules}
+use Rattle.std.proofs.Common.{◌≡◌, ℕ, true, List, sym, ◌∙◌, rules}
 use Rattle.basic_toml_read.specs.declared.section.Row.{Row}
-use Rattle.basic_toml_plain.specs.Tries.{tree_data}
 use Rattle.basic_toml_plain.specs.Plain.{are_few_simple, rows_data}
 use Rattle.basic_toml_plain.specs.Values.{section_data}
 use Rattle.basic_toml_plain.proofs.RowsData.{few_data}
@@ -21,6 +20,5 @@ section_rows rows simple =
 pub section_table_data : (s : ℕ) (rows : List Row) → are_few_simple 0 rows ≡ true
     → table_data (section_table s rows) ≡ rows_data rows
 section_table_data s rows simple =
-    sym (table_trie_data (section_table s rows))
-    ∙ ap tree_data (sym (section_trie s rows simple))
-    ∙ item_trie_data (Section rows) ∙ section_rows rows simple
+    rw (← table_trie_data (section_table s rows), ← section_trie s rows simple)
+    (item_trie_data (Section rows) ∙ section_rows rows simple)

@@ -1,12 +1,11 @@
 -- The sections of a list entered one after another: what the tree is then, and what it says of one that is not entered.
-use Rattle.std.proofs.Common.{◌≡◌, inl, inr, ℕ, suc, ◌+◌, ◌<◌, ◌≤◌, max, true, false, List, [], ◌∷◌, ◌++◌, Some, None}
-use Rattle.std.proofs.Common.{is_some, if◌then◌else◌, refl, ap, sym, ◌∙◌, subst, arith, nat_lt, reverse}
+use Rattle.std.proofs.Common.{◌≡◌, inl, inr, ℕ, suc, ◌+◌, ◌<◌, ◌≤◌, true, false, List, [], ◌∷◌, ◌++◌, Some, None}
+use Rattle.std.proofs.Common.{is_some, if◌then◌else◌, refl, ap, sym, ◌∙◌, arith, nat_lt, reverse}
 use Rattle.std.specs.List.{Contains}
 use Rattle.std.proofs.lemmas.List.Elements.{Contains-append_right}
 use Rattle.std.proofs.lemmas.Bool.{not-true}
 use Rattle.basic_toml_value.specs.Nesting.{nesting_limit}
 use Rattle.basic_toml_grammar.specs.Sections.{Section, texts}
-use Rattle.basic_toml_grammar.specs.Levels.{rows_level}
 use Rattle.basic_toml_grammar.specs.RowClash.{rows_clash}
 use Rattle.basic_toml_grammar.specs.IndexedPath.{Located, located, located_after}
 use Rattle.basic_toml_grammar.specs.Depth.{depth}
@@ -35,8 +34,7 @@ level_there : (earlier : List Section) (s : Section) (t : Trie) → Stands earli
     → section_level_in t s ≡ tree_level (located_after (reverse earlier) s)
 level_there earlier s t (inl e) = level_is_tree_level earlier s t e
 level_there earlier s t (inr e) =
-    rw (e.0, e.1) (ap (λ n. max (suc n) (rows_level (suc n) s.rows)) (steps_fresh s.is_array (texts s.header))
-    ∙ level_is_tree_level [] s nothing refl)
+    rw (e.0, e.1, steps_fresh s.is_array (texts s.header)) (level_is_tree_level [] s nothing refl)
 
 -- lists of places, one of which is too deep, and none
 deep_among : (limit : ℕ) (ls : List Located) (l : Located) (more : List Located) → limit < tree_level l
@@ -58,14 +56,12 @@ pub one_more : (earlier : List Section) (s : Section) (t u : Trie) → Entered e
 one_more earlier s t u entered is =
     let steps = steps_to s.is_array (texts s.header) t in
     let level : 1 + steps ≡ suc steps = omega arith in
-    let fits : section_level_in t s ≤ nesting_limit =
-    subst (λ n. max n (rows_level n s.rows) ≤ nesting_limit) level is.fits in
     record {
       stands = inl (taken earlier s t u entered.stands (rw is.apart is.gives));
       shallow =
           ap (deep_sections nesting_limit) (at_section earlier s [])
           ∙ none_deep nesting_limit (located earlier) (located_after (reverse earlier) s) entered.shallow
-          (subst (λ n. n ≤ nesting_limit) (level_there earlier s t entered.stands) fits);
+          (rw (← level_there earlier s t entered.stands) (rw level at is.fits));
     }
 
 -- a section above the limit is one of those that are too deep by their paths
@@ -74,7 +70,7 @@ pub deep_by_path : (earlier : List Section) (s : Section) (t : Trie) (later : Li
     → Contains (deep_sections nesting_limit (located (earlier ++ s ∷ later))) s.at
 deep_by_path earlier s t later entered deep =
     rw (at_section earlier s later) (deep_among nesting_limit (located earlier) (located_after (reverse earlier) s) _
-    (subst (λ n. nesting_limit < n) (level_there earlier s t entered.stands) deep))
+    (rw (← level_there earlier s t entered.stands) deep))
 
 -- the tree at the end
 module _ {sections : List Section} {t : Trie} (entered : Entered sections t) where

@@ -1,5 +1,5 @@
 -- A list that has no tree has one fault.
-use Rattle.std.proofs.Common.{◌≡◌, inl, inr, ◌<◌, true, List, [], ◌∷◌, ◌++◌, None, refl, ap, sym, ◌∙◌, subst, arith}
+use Rattle.std.proofs.Common.{◌≡◌, inl, inr, true, List, [], ◌∷◌, ◌++◌, None, refl, ap, sym, ◌∙◌, arith}
 use Rattle.std.specs.List.{Contains}
 use Rattle.std.proofs.lemmas.Bool.{false≢true}
 use Rattle.basic_toml_grammar.specs.Sections.{Section, texts}
@@ -23,21 +23,17 @@ pub data Splits (a b : List Section) (x y : Section) : Type 0 where
   earlier : (more : List Section) → b ≡ a ++ x ∷ more → Splits a b x y
   later : (more : List Section) → a ≡ b ++ y ∷ more → Splits a b x y
 
-further : (z : Section) {a b : List Section} {x y : Section} → Splits a b x y → Splits (z ∷ a) (z ∷ b) x y
-further z (same e f) = same (ap (λ ss. z ∷ ss) e) f
-further z (earlier more e) = earlier more (ap (λ ss. z ∷ ss) e)
-further z (later more e) = later more (ap (λ ss. z ∷ ss) e)
-
 splits : (a b : List Section) (x y : Section) (c d : List Section) → a ++ x ∷ c ≡ b ++ y ∷ d → Splits a b x y
-splits [] [] x y c d e = let f : x ≡ y = cc in same refl f
-splits [] (z ∷ b) x y c d e =
-    let f : x ≡ z = cc in earlier b (ap (λ s. s ∷ b) (sym f))
-splits (z ∷ a) [] x y c d e =
-    let f : z ≡ y = cc in later a (ap (λ s. s ∷ a) f)
+splits [] [] x y c d e = same refl (cc)
+splits [] (z ∷ b) x y c d e = earlier b (cc)
+splits (z ∷ a) [] x y c d e = later a (cc)
 splits (z ∷ a) (w ∷ b) x y c d e =
     let f : z ≡ w = cc in
-    let g : a ++ x ∷ c ≡ b ++ y ∷ d = cc in
-    subst (λ s. Splits (z ∷ a) (s ∷ b) x y) f (further z (splits a b x y c d g))
+    elim (splits a b x y c d (cc)) [
+      | same g h ↦ same (cc (f, g)) h
+      | earlier more g ↦ earlier more (cc (f, g))
+      | later more g ↦ later more (cc (f, g))
+    ]
 
 -- a section that is stopped after some is not among those that a tree takes
 not_entered : (before : List Section) (s : Section) (more : List Section) (t u : Trie) (fault : Fault)
@@ -48,7 +44,7 @@ not_entered before s more t u fault keyed none entered stopped all =
       | inl names ↦ false≢true (sym (no_clash all keyed) ∙ named_clashes (before ++ s ∷ more) fault names)
       | inr deep ↦
           let nowhere : Contains [] deep.0 = rw all.shallow at deep.2 in
-          let h : nowhere.0 < 0 = nowhere.1 in absurd (omega arith)
+          absurd (omega (arith, nowhere.1))
     ]
 
 -- a trie of sections takes the next one as they tell: a root as nothing does
@@ -82,9 +78,9 @@ module _ (sections : List Section) (keyed : all_keyed sections ≡ true) (none :
   one_stop a b (later more e) = absurd (passed b a more e)
 
 pub sections_fault_is_one : SectionsFaultIsOne
-sections_fault_is_one sections _ _ keyed (value e) (value f) = let same = sym e ∙ f in cc
-sections_fault_is_one sections _ _ keyed (value e) (section none b) = let no = sym e ∙ none in cc
-sections_fault_is_one sections _ _ keyed (section none a) (value f) = let no = sym none ∙ f in cc
+sections_fault_is_one sections _ _ keyed (value e) (value f) = cc
+sections_fault_is_one sections _ _ keyed (value e) (section none b) = cc
+sections_fault_is_one sections _ _ keyed (section none a) (value f) = cc
 sections_fault_is_one sections _ _ keyed (section none a) (section none' b) =
     one_stop sections keyed none a b
     (splits a.before b.before a.here b.here a.later b.later (sym a.parts ∙ b.parts))

@@ -1,12 +1,10 @@
 -- The sections of a list entered one after another: what is known of the tree then, and of one that is not entered.
-use Rattle.std.proofs.Common.{◌≡◌, ◌⊎◌, inl, inr, ℕ, ◌+◌, true, false, List, [], ◌∷◌, ◌++◌, refl, ap, sym, ◌∙◌, arith}
-use Rattle.std.proofs.Common.{map, length, Option, Some, None}
+use Rattle.std.proofs.Common.{◌≡◌, ◌⊎◌, inl, inr, ℕ, ◌+◌, true, List, [], ◌∷◌, ◌++◌, refl, ap, sym, ◌∙◌, arith}
+use Rattle.std.proofs.Common.{map, length, reverse, suc, Option, Some, None}
 use Rattle.std.proofs.lemmas.List.{map-append, length-map}
 use Rattle.std.proofs.lemmas.Bool.{false≢true}
-use Rattle.basic_toml_grammar.specs.IndexedPath.{located}
+use Rattle.basic_toml_grammar.specs.IndexedPath.{located, located_from, located_after}
 use Rattle.basic_toml_grammar.specs.Entering.{all_keyed, all_keyed_within}
-use Rattle.basic_toml_grammar.specs.Nodes.{is_made}
-use Rattle.basic_toml_grammar.specs.Steps.{Path}
 use Rattle.basic_toml_grammar.specs.Faults.{Fault}
 use Rattle.basic_toml_grammar.specs.NamedClash.{dotted_fault}
 use Rattle.basic_toml_grammar.proofs.Naming.EveryClashIsNamed.{named_clashes}
@@ -25,13 +23,16 @@ use Rattle.basic_toml_grow.specs.Obstacles.{first_obstacle}
 use Rattle.basic_toml_grow.specs.Item.{table_trie}
 use Rattle.basic_toml_grow.specs.declared.item.Table.{Table}
 use Rattle.basic_toml_grow.specs.Origins.{table_within, rows_origins}
-use Rattle.basic_toml_grow.specs.Ways.{way, GrowsAlong, MarksTable, sections_origins}
+use Rattle.basic_toml_grow.specs.Ways.{way, GrowsAlong, MarksTable}
 use Rattle.basic_toml_grow.proofs.HeadersInATrie.{fresh}
 use Rattle.basic_toml_grow.proofs.Origins.OriginsSeen.{fresh_within}
 use Rattle.basic_toml_tree.specs.declared.tree.Tree.{Tree}
 use Rattle.basic_toml_tree.specs.FirstStop.{Entered, section}
 use Rattle.basic_toml_tree.specs.Resolve.{IsResolved, IsUnresolved, memory, refused, head}
+use Rattle.basic_toml_grammar.proofs.Tries.StepsArePaths.{at_section}
 use Rattle.basic_toml_tree.proofs.Origins.SectionsPlaceOrigins.{ComeFrom, none_come, more_come}
+use Rattle.basic_toml_tree.proofs.Origins.WaysAreLocated.{way_is}
+use Rattle.basic_toml_tree.proofs.Nodes.RowNodesTold.{not_led}
 use Rattle.basic_toml_tree.proofs.SectionsEntered.{one_more, whole_tree, no_clash, fits_all}
 use Rattle.basic_toml_tree.proofs.SectionsStopped.{same_obstacle_fault, crossed_named, keyed_parts}
 use Rattle.basic_toml_tree.proofs.TrieData.{table_trie_data}
@@ -40,7 +41,7 @@ use Rattle.basic_toml_tree.proofs.TrieData.{table_trie_data}
 pub record HaveEntered (list : List Section) (headers : List (ℕ × List Key)) (root : Table) : Type 0 where
   pub entered : Entered list (table_trie root)
   pub heads : headers ≡ map head list
-  pub origins : all_keyed list ≡ true → ComeFrom list (table_within root).below
+  pub origins : all_keyed list ≡ true → ComeFrom (located list) (table_within root).below
 
 pub none_entered : (headers : List (ℕ × List Key)) (root : Table) → headers ≡ [] → table_trie root ≡ fresh
     → HaveEntered [] headers root
@@ -61,14 +62,9 @@ entered_resolved list tree have keyed within =
       stands = have.entered.stands;
       heads = have.heads;
       within = within;
-      origins = made_apart origins;
+      origins = λ p not. origins.rows p (not_led (located list) p not);
       marks = origins.headers;
     }
-  where
-    made_apart : ComeFrom list (table_within tree.root).below → (p : Path) → is_made (located list) p ≡ false
-        → (table_within tree.root).below p ≡ sections_origins 0 (located list) p
-    made_apart come [] not = absurd (false≢true (sym not))
-    made_apart come (r ∷ p) not = come.rows (r ∷ p) not
 
 -- where nothing is there, it is none
 pub none_there : (o : Option ℕ) → ((at : ℕ) → o ≡ Some at → ⊥) → o ≡ None
@@ -113,9 +109,16 @@ module _ {list : List Section} {headers : List (ℕ × List Key)} {root : Table}
     heads = pushed ∙ ap (λ hs. hs ++ head s ∷ []) have.heads ∙ sym (map-append head list (s ∷ []));
     origins = λ keyed.
         let before = (keyed_parts list (s ∷ []) keyed).0 in
-        more_come list s (table_trie root) n (table_within root).below (table_within after) before have.entered.stands
-        (counted ∙ ap length have.heads ∙ length-map list head) (have.origins before) goes.grows goes.marks;
+        let path = way_is list s (table_trie root) before have.entered.stands in
+        let number = counted ∙ ap length have.heads ∙ length-map list head ∙ sym (located_count [] list) in
+        rw (at_section list s [])
+        (more_come (located list) (located_after (reverse list) s) (table_within root).below (table_within after)
+        (have.origins before) (rw (path, number) at goes.grows) (rw (path, number) at goes.marks));
   }
+    where
+      located_count : (before ss : List Section) → length (located_from before ss) ≡ length ss
+      located_count before [] = refl
+      located_count before (s ∷ ss) = ap suc (located_count (s ∷ before) ss)
 
   -- it is not entered, and others come after it
   pub kept_out : (s : code.Section) (later : List Section) → first_crossed (list ++ section_of s ∷ later) ≡ None
@@ -125,15 +128,13 @@ module _ {list : List Section} {headers : List (ℕ × List Key)} {root : Table}
   kept_out s later none c fault met now same header names =
       elim (clash_is (first_obstacle (section_of s) (table_trie root)) c fault now met names) [
         | inl is ↦ rw is (memory (some_listed list (section_of s) later))
-        | inr x ↦
-            let keys : (section_of now).header ≡ (section_of s).header = rw header refl in
-            refused (section none (record {
-              before = list;
-              here = section_of s;
-              later = later;
-              parts = refl;
-              so_far = table_trie root;
-              entered = have.entered;
-              stopped = (x.0, (x.1, x.2 ∙ same_obstacle_fault (section_of now) (section_of s) keys same x.0));
-            }))
+        | inr x ↦ refused (section none (record {
+          before = list;
+          here = section_of s;
+          later = later;
+          parts = refl;
+          so_far = table_trie root;
+          entered = have.entered;
+          stopped = (x.0, (x.1, x.2 ∙ same_obstacle_fault (section_of now) (section_of s) (rw header refl) same x.0));
+        }))
       ]

@@ -1,6 +1,6 @@
 -- The fault of a list that has no tree names a clash of it, or a section that is too deep.
 use Rattle.std.proofs.Common.{◌≡◌, ◌⊎◌, inl, inr, ℕ, true, List, [], ◌∷◌, ◌++◌, refl, ap, sym, ◌∙◌}
-use Rattle.std.proofs.Common.{subst, arith, ◌<◌, Some, None}
+use Rattle.std.proofs.Common.{arith, ◌<◌, Some, None}
 use Rattle.std.specs.Prelude.{Contains}
 use Rattle.std.specs.List.{flat_map}
 use Rattle.std.specs.Option.{option_or}
@@ -38,19 +38,16 @@ keyed_parts (r ∷ earlier) later keyed =
 section_stops : (earlier : List Section) (s : Section) (later : List Section) (t : Trie) → Stands earlier t
     → all_keyed (earlier ++ s ∷ later) ≡ true → flat_map (λ s. dotted_faults s.rows) (earlier ++ s ∷ later) ≡ []
     → (x : Stop) → first_obstacle s t ≡ Some (in_the_way x) → NamesClash (earlier ++ s ∷ later) (stop_fault s x)
-section_stops earlier s later t stands keyed none x e = elim stands [
-  | inl put ↦ trie_stops_named earlier s later t x parts.0 here none put
-      (met_stops s.is_array s.rows (texts s.header) 1 t x e)
-  | inr first ↦ rw first.0 (trie_stops_named [] s later nothing x refl here (rw first.0 at none) refl
-      (met_stops s.is_array s.rows (texts s.header) 1 nothing x
-      (sym (met_fresh s.is_array s.rows (texts s.header) 1) ∙ rw first.1 at e)))
-]
-  where
-    parts : (all_keyed earlier ≡ true) × (all_keyed (s ∷ later) ≡ true)
-    parts = keyed_parts earlier (s ∷ later) keyed
-
-    here : is_keyed s ≡ true
-    here = (and_parts (is_keyed s) (all_keyed later) parts.1).0
+section_stops earlier s later t stands keyed none x e =
+    let parts = keyed_parts earlier (s ∷ later) keyed in
+    let here = (and_parts (is_keyed s) (all_keyed later) parts.1).0 in
+    elim stands [
+      | inl put ↦ trie_stops_named earlier s later t x parts.0 here none put
+          (met_stops s.is_array s.rows (texts s.header) 1 t x e)
+      | inr first ↦ rw first.0 (trie_stops_named [] s later nothing x refl here (rw first.0 at none) refl
+          (met_stops s.is_array s.rows (texts s.header) 1 nothing x
+          (sym (met_fresh s.is_array s.rows (texts s.header) 1) ∙ rw first.1 at e)))
+    ]
 
 -- the fault of what is met is told by the header and the offset
 pub same_obstacle_fault : (r s : Section) → r.header ≡ s.header → r.at ≡ s.at → (x : Obstacle)
@@ -106,6 +103,6 @@ pub fault_is_named : (sections : List Section) (fault : Fault) → all_keyed sec
     × Contains (deep_sections nesting_limit (located sections)) offset)
 fault_is_named sections _ keyed (value {at = at} there) = inl (crossed_named sections at there)
 fault_is_named sections fault keyed (section none first) =
-    subst (λ ss. IsNamed ss fault) (sym first.parts)
+    rw first.parts
     (stop_is_named first.before first.here first.later first.so_far fault (rw first.parts at keyed)
     (rw first.parts at none) first.entered first.stopped)

@@ -124,32 +124,23 @@ module _ {bytes : List ℕ} {old reader : SectionReader} {headers : List (ℕ ×
       → (now : code.Section) → now.at ≡ s.at → now.header ≡ s.header → TellsClash bytes grows.list now c fault
       → AnswersText bytes (Err fault)
   clashes is c fault met now same header (inl refused_text) = inl refused_text
-  clashes is c fault met now same header (inr told) = go (first_crossed told.later) refl told.told
-    where
-      here : IsListOf bytes (grows.list ++ told.later)
-      here = list_of bytes (grows.list ++ told.later) told.is
-
-      none : first_crossed grows.list ≡ None
-      none = none_crossed grows.have
-          (keyed_parts grows.list told.later (keyed (folded bytes) (grows.list ++ told.later) here.grammar)).0
-
-      all_crossed : first_crossed (grows.list ++ told.later) ≡ first_crossed told.later
-      all_crossed = crossed_joined grows.list told.later ∙ rw none refl
-
-      first : (more : List Section) × (told.later ≡ section_of s ∷ more)
-      first = next_is_first reader grows.list (section_of s) told.later (so_far_on is) (rw text_is told.is)
-
-      go : (o : Option ℕ) → first_crossed told.later ≡ o
-          → MatchOption o (NamesClash now c fault) (λ at. fault ≡ dotted_fault at) → AnswersText bytes (Err fault)
-      go (Some at) crossed is =
-          rw is (inr (record {
-            sections = grows.list ++ told.later;
-            list = here;
-            unresolved = refused (value (all_crossed ∙ crossed));
-          }))
-      go None crossed names = inr (record {
-        sections = grows.list ++ section_of s ∷ first.0;
-        list = rw first.1 at here;
-        unresolved = kept_out grows.have s first.0 (rw first.1 at (all_crossed ∙ crossed)) c fault met now same header
-            names;
-      })
+  clashes is c fault met now same header (inr told) =
+      let all = grows.list ++ told.later in
+      let here = list_of bytes all told.is in
+      let none = none_crossed grows.have
+      (keyed_parts grows.list told.later (keyed (folded bytes) all here.grammar)).0 in
+      let all_crossed : first_crossed all ≡ first_crossed told.later =
+      crossed_joined grows.list told.later ∙ rw none refl in
+      let first = next_is_first reader grows.list (section_of s) told.later (so_far_on is) (rw text_is told.is) in
+      (elim (first_crossed told.later) as (λ o. first_crossed told.later ≡ o
+      → MatchOption o (NamesClash now c fault) (λ at. fault ≡ dotted_fault at) → AnswersText bytes (Err fault)) [
+        | Some at ↦ λ crossed is.
+            let unresolved = refused (value (all_crossed ∙ crossed)) in
+            rw is (inr (record { sections = all; list = here; unresolved = unresolved }))
+        | None ↦ λ crossed names. inr (record {
+          sections = grows.list ++ section_of s ∷ first.0;
+          list = rw first.1 at here;
+          unresolved = kept_out grows.have s first.0 (rw first.1 at (all_crossed ∙ crossed)) c fault met now same
+              header names;
+        })
+      ]) refl told.told

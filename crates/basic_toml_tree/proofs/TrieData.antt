@@ -26,17 +26,12 @@ items_numbers : (n : ℕ) (ts : List Trie)
 items_numbers n [] = refl
 items_numbers n (t ∷ ts) = ap (λ ds. item (tree_data t) ds) (items_numbers (suc n) ts)
 
-numbers_data : (s : Option Standing) (n : ℕ) (before : List Trie) (t : Trie)
-    → tree_data (trie s None (by_numbers n (before ++ t ∷ [])))
-    ≡ Data.array (items_of (map tree_data (before ++ t ∷ [])))
-numbers_data s n [] t = refl
-numbers_data s n (b ∷ before) t = ap Data.array (items_numbers n (b ∷ (before ++ t ∷ [])))
-
-numbers_agree : (s : Option Standing) (ts : List Trie) (t : Trie) (ds : List Data) (d : Data) → map tree_data ts ≡ ds
-    → tree_data t ≡ d → tree_data (trie s None (by_numbers 0 (ts ++ t ∷ []))) ≡ Data.array (items_of (ds ++ d ∷ []))
-numbers_agree s ts t ds d before latest =
-    numbers_data s 0 ts t
-    ∙ ap (λ ds. Data.array (items_of ds)) (map-append tree_data ts (t ∷ []) ∙ rw (before, latest) refl)
+numbers_data : (s : Option Standing) (ts : List Trie) (t : Trie)
+    → tree_data (trie s None (by_numbers 0 (ts ++ t ∷ [])))
+    ≡ Data.array (items_of (map tree_data ts ++ tree_data t ∷ []))
+numbers_data s [] t = refl
+numbers_data s (b ∷ ts) t =
+    ap Data.array (items_numbers 0 (b ∷ (ts ++ t ∷ [])) ∙ ap items_of (map-append tree_data (b ∷ ts) (t ∷ [])))
 
 -- what is to be shown of an item, a child and a table
 abbrev OfItem : Item → Type 0
@@ -67,8 +62,7 @@ entries_agree (p ∷ ps) = rw (p.1.1, entries_agree ps) refl
 
 section_agrees : (rows : List Row) → tree_data (rows_trie rows) ≡ section_data rows
 section_agrees rows =
-    keys_data (Some (table false true false)) (map row_trie rows)
-    ∙ ap (λ ps. Data.table (members_of ps)) (rows_agree rows)
+    rw (keys_data (Some (table false true false)) (map row_trie rows), rows_agree rows) refl
 
 sections_agree : (ts : List SectionTable)
     → map tree_data (map (λ t. rows_trie t.1) ts) ≡ map (λ t. section_data t.1) ts
@@ -92,18 +86,18 @@ item_agrees (Item-F.Section rs) = simp the_lemmas (section_agrees rs)
 item_agrees (Item-F.Inline e) = search (rules, the_lemmas, e.value.1)
 item_agrees (Item-F.Table e) = search (rules, the_lemmas, e.value.1)
 item_agrees (Item-F.Tables e) =
-    let ts : List Table = map (λ e. e.0) e.value.0.items in
-    let t : Table = e.value.1.0 in
+    let ts : List Trie = map table_trie (map (λ e. e.0) e.value.0.items) in
     search (
       rules,
       the_lemmas,
-      numbers_agree (Some (array (suc (length (map table_trie ts))))) (map table_trie ts)
-          (table_trie t) (map table_data ts) (table_data t) (all_agree table_trie table_data e.value.0.items) e.value.1.1,
+      numbers_data (Some (array (suc (length ts)))) ts (table_trie e.value.1.0),
+      all_agree table_trie table_data e.value.0.items,
+      e.value.1.1,
     )
 item_agrees (Item-F.Sections tables) =
-    simp the_lemmas (numbers_agree (Some (array (suc (length tables.value.0))))
-    (map (λ t. rows_trie t.1) tables.value.0) (rows_trie tables.value.1.1) _ _ (sections_agree tables.value.0)
-    (section_agrees tables.value.1.1))
+    let ts : List Trie = map (λ t. rows_trie t.1) tables.value.0 in
+    simp the_lemmas (numbers_data (Some (array (suc (length tables.value.0)))) ts (rows_trie tables.value.1.1)
+    ∙ rw (sections_agree tables.value.0, section_agrees tables.value.1.1) refl)
 item_agrees y = search (rules, the_lemmas)
 
 item_case : (x : Item-F Item Child Table) (y : Item-F Item1 Child1 Table1)

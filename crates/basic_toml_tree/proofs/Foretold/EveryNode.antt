@@ -4,7 +4,6 @@ use Rattle.std.proofs.Common.{◌≡◌, true, false, not, List, [], ◌∷◌, 
 use Rattle.std.proofs.Common.{◌∙◌, subst}
 use Rattle.std.specs.Prelude.{is_some}
 use Rattle.std.proofs.lemmas.Bool.{false≢true, or_parts, cases_Bool}
-use Rattle.basic_toml_value.specs.Data.{Data}
 use Rattle.basic_toml_grammar.specs.Sections.{Section}
 use Rattle.basic_toml_grammar.specs.Steps.{Path}
 use Rattle.basic_toml_grammar.specs.IndexedPath.{Located, located}
@@ -12,7 +11,7 @@ use Rattle.basic_toml_grammar.specs.RowClash.{rows_clash, has_row_clash}
 use Rattle.basic_toml_grammar.specs.SectionClash.{sections_clash}
 use Rattle.basic_toml_grammar.specs.Growth.{nothing_grown, grow_all}
 use Rattle.basic_toml_grammar.specs.Mentions.{mentions}
-use Rattle.basic_toml_grammar.specs.Document.{has_clash, tree_of_sections, document_of}
+use Rattle.basic_toml_grammar.specs.Document.{has_clash, tree_of_sections}
 use Rattle.basic_toml_grammar.specs.Entering.{all_keyed, all_keyed_within}
 use Rattle.basic_toml_grammar.specs.Trie.{Trie, nothing, put_sections}
 use Rattle.basic_toml_grammar.specs.Nodes.{Node, is_made, last_at, node_of_sections, node_at}
@@ -60,15 +59,11 @@ foretold_there sections (s ∷ p) keyed within free e = elim (cases_Bool (is_mad
     ls : List Located
     ls = located sections
 
--- what a document says of its list
-document_is : (sections : List Section) (tree : Data) → document_of sections ≡ Some tree
-    → (has_clash sections ≡ false) × (tree_of_sections sections ≡ tree)
-document_is sections tree e = (grind arith, grind arith)
-
 pub every_node_of_a_list : EveryNodeOfAListIsForetold
 every_node_of_a_list sections tree p keyed within means there =
-    let is = document_is sections tree means in
-    foretold_there sections p keyed within is.0 (ap (λ d. is_some (data_along p d)) is.1 ∙ there)
+    let free : has_clash sections ≡ false = grind arith in
+    let same : tree_of_sections sections ≡ tree = grind arith in
+    foretold_there sections p keyed within free (rw same there)
 
 pub every_node : EveryNodeIsForetold
 every_node text sections tree p grammar means there =

@@ -1,6 +1,6 @@
 -- A node that stands in a tree is foretold by the section list, and as it is: its data stand at its path.
 use Rattle.std.proofs.Common.{◌≡◌, ℕ, Bool, true, List, Option, Some, None, inl, inr, ap, sym, ◌∙◌, arith, false}
-use Rattle.std.specs.Prelude.{is_some, IfSome, IsSomeAnd, if◌then◌else◌}
+use Rattle.std.specs.Prelude.{is_some, IfSome, IsSomeAnd}
 use Rattle.std.proofs.lemmas.Bool.{false≢true, cases_Bool}
 use Rattle.std.proofs.lemmas.Option.{IfSome_then}
 use Rattle.basic_toml_grammar.specs.Sections.{Section, KeyTexts}
@@ -9,7 +9,6 @@ use Rattle.basic_toml_grammar.specs.IndexedPath.{located}
 use Rattle.basic_toml_grammar.specs.Nodes as grammar
 use Rattle.basic_toml_tree.specs.declared.node.Node.{Node}
 use Rattle.basic_toml_tree.specs.Origin.{is_made, is_borrowed, name_of, start_of, outer_of, offset_of, keys_of}
-use Rattle.basic_toml_tree.specs.Origin.{is_array_literal, last_at}
 use Rattle.basic_toml_tree.specs.Paths.{data_along}
 use Rattle.basic_toml_tree.specs.Stands.{IsNodeAt, Foretold, ForetoldSlice}
 use Rattle.basic_toml_tree.proofs.Foretold.EveryNode.{foretold_there}
@@ -74,12 +73,9 @@ pub place_foretold : (place : Option ℕ) (node : Node) → place ≡ offset_of 
     → Foretold sections p node (λ found. place ≡ found.offset)
 unfolding offset_of start_of outer_of
 place_foretold place node same sections p is =
-    foretold _ is (λ _ told. same ∙ rw (told.0.made) (one (is_array_literal node.spot) ∙ last_same sections p node is))
+    foretold _ is (λ _ told. same ∙ rw (told.0.made) (grind (arith, last_same sections p node is)))
     (λ not. some_both (grammar.node_at sections p) (row_outer sections p node is not) (plain_at sections p not)
     (λ found told plain. same ∙ row_place node found told.0 told.1 plain))
-  where
-    one : (b : Bool) → (if b then last_at node.tree.now else last_at node.tree.now) ≡ last_at node.tree.now
-    one b = grind arith
 
 pub outer_foretold : (outer : Option ℕ) (node : Node) → outer ≡ outer_of node → (sections : List Section) (p : Path)
     → Foretold sections p node (λ found. outer ≡ found.outer_offset)

@@ -2,7 +2,7 @@
 -- from it into its value.
 use Rattle.std.proofs.Common.{◌≡◌, ◌+◌, ℕ, zero, suc, Bool, true, false, List, [], ◌∷◌, Option, Some}
 use Rattle.std.proofs.Common.{None, refl, arith, inl, inr}
-use Rattle.std.specs.Prelude.{◌||◌, ◌&&◌, if◌then◌else◌, is_some, slice_get, nat_eq}
+use Rattle.std.specs.Prelude.{◌||◌, ◌&&◌, if◌then◌else◌, is_some, slice_get}
 use Rattle.std.specs.List.{list_any}
 use Rattle.std.specs.Option.{option_and_then}
 use Rattle.std.proofs.lemmas.Bool.{false≢true, or_left, or_right, cases_Bool}
@@ -46,19 +46,19 @@ shoot_keys : (ks : KeyTexts) (v : Option Data) → InTurn (shoot (steps_of ks) v
 shoot_keys [] v = tt
 shoot_keys (k ∷ ks) v = (shoot_keys ks v, tt)
 
-grow_at_key : (k : List ℕ) (p : Path) (v : Option Data) → ((g : Growth) → InTurn g → InTurn (grow g p v))
-    → InTurn (shoot p v) → (j : ℕ) (bs : Branches) → Counts j bs → Counts j (grow_at bs (key k) p v)
-grow_at_key k p v f shot j no_branches h = (shot, tt)
-grow_at_key k p v f shot j (branch (number i) g bs) h = (h.0, h.1, grow_at_key k p v f shot (suc j) bs h.2)
-grow_at_key k p v f shot j (branch (key l) g bs) h = elim (cases_Bool (step_eq (key l) (key k))) [
-  | inl here ↦ rw here (f g h.0, h.1)
-  | inr other ↦ rw other (h.0, grow_at_key k p v f shot j bs h.1)
-]
+mutual
+  grow_keys : (ks : KeyTexts) (v : Option Data) (g : Growth) → InTurn g → InTurn (grow g (steps_of ks) v)
+  grow_keys [] v (grown o bs) h = h
+  grow_keys (k ∷ ks) v (grown o bs) h = grow_at_key k ks v 0 bs h
 
-grow_keys : (ks : KeyTexts) (v : Option Data) (g : Growth) → InTurn g → InTurn (grow g (steps_of ks) v)
-grow_keys [] v (grown o bs) h = h
-grow_keys (k ∷ ks) v (grown o bs) h =
-    grow_at_key k (steps_of ks) v (λ g h. grow_keys ks v g h) (shoot_keys ks v) 0 bs h
+  grow_at_key : (k : List ℕ) (ks : KeyTexts) (v : Option Data) (j : ℕ) (bs : Branches) → Counts j bs
+      → Counts j (grow_at bs (key k) (steps_of ks) v)
+  grow_at_key k ks v j no_branches h = (shoot_keys ks v, tt)
+  grow_at_key k ks v j (branch (number i) g bs) h = (h.0, h.1, grow_at_key k ks v (suc j) bs h.2)
+  grow_at_key k ks v j (branch (key l) g bs) h = elim (cases_Bool (step_eq (key l) (key k))) [
+    | inl here ↦ rw here (grow_keys ks v g h.0, h.1)
+    | inr other ↦ rw other (h.0, grow_at_key k ks v j bs h.1)
+  ]
 
 grow_rows : (rows : Rows) (g : Growth) → InTurn g → InTurn (grow_all g (row_mentions [] rows))
 grow_rows no_rows g h = h
@@ -114,10 +114,9 @@ mutual
   items_reached no_branches j n m p is h e = e
   items_reached (branch (key l) g bs) j n m p is h e = items_reached bs j n m p is h.1 e
   items_reached (branch (number i) g bs) j zero m p is h e =
-      let same : nat_eq i m ≡ true = grind (arith, is, h.0) in rw same (closed_reached g p h.1 e)
+      grind (arith, is, h.0, closed_reached g p h.1 e)
   items_reached (branch (number i) g bs) j (suc n) m p is h e =
-      let other : nat_eq i m ≡ false = grind (arith, is, h.0) in
-      rw other (items_reached bs (suc j) n m p (omega (arith, is)) h.2 e)
+      grind (arith, is, h.0, items_reached bs (suc j) n m p (omega (arith, is)) h.2 e)
 
 -- a mention that leads to a path
 abbrev pub leads : Path → Option Data → Path → Bool

@@ -32,12 +32,8 @@ row_found : (ks : KeyTexts) (o : Origin) (d : Data) (f : Origins)
     → ((p : Path) → is_some (data_along p d) ≡ true → Found f p) → (t : Step) (p : Path)
     → leads (steps_of ks) (Some d) (t ∷ p) ≡ true → Found (row_origins ks o f) (t ∷ p)
 row_found [] o d f value t p e = value (t ∷ p) e
-row_found (k ∷ []) o d f value t p e =
-    grind (arith, turn_eq t (key k), value p, here p)
-  where
-    here : (p : Path) → leads [] (Some d) p ≡ true → is_some (data_along p d) ≡ true
-    here [] e = refl
-    here (s ∷ p) e = e
+row_found (k ∷ []) o d f value t [] e = grind (arith, turn_eq t (key k), value [])
+row_found (k ∷ []) o d f value t (u ∷ p) e = grind (arith, turn_eq t (key k), value (u ∷ p))
 row_found (k ∷ l ∷ ks) o d f value t [] e = grind (arith, turn_eq t (key k))
 row_found (k ∷ l ∷ ks) o d f value t (u ∷ p) e =
     grind (arith, turn_eq t (key k), row_found (l ∷ ks) o d f value u p)
@@ -64,9 +60,8 @@ mutual
   rows_found s no_rows t p e = e
   rows_found s (row keys at v rows) t p e =
       either _ _ (leads (steps_of (texts keys)) (Some (finished v)) (t ∷ p)) (any_leads (row_mentions [] rows) (t ∷ p))
-      (λ e. row_found (texts keys) (table_origin false at s) (finished v) (value_origins s at v)
-      (λ p e. value_found s at v p e) t p e)
-      (λ e. rows_found s rows t p e) e
+      (row_found (texts keys) (table_origin false at s) (finished v) (value_origins s at v) (value_found s at v) t p)
+      (rows_found s rows t p) e
 
 -- rows below the table of a section, one step further
 one_step : (r t : Step) (w p : Path) (rows : Rows) → any_leads (row_mentions (r ∷ w) rows) (t ∷ p) ≡ true
@@ -95,5 +90,5 @@ sections_found n (l ∷ ls) p not e =
     let both = or_parts (begins p l.path) (list_any (λ l. begins p l.path) ls) not in
     either _ _ (leads l.path None p || any_leads (row_mentions l.path l.section.rows) p) (any_leads (mentions ls) p)
     (λ e. grind (arith, table_begins l.path p, rows_along n l.section.rows l.path p))
-    (λ e. sections_found (suc n) ls p both.1 e)
+    (sections_found (suc n) ls p both.1)
     (sym (list_any-append (λ m. leads m.path m.value p) (section_mentions l.path l.section.rows) (mentions ls)) ∙ e)

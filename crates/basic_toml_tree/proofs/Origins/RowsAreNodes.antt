@@ -5,7 +5,8 @@ use Rattle.std.specs.Prelude.{◌||◌, ◌&&◌, if◌then◌else◌}
 use Rattle.std.specs.List.{list_any, list_all}
 use Rattle.std.specs.Option.{option_or}
 use Rattle.std.proofs.lemmas.Bool.{false≢true, and_parts, or_parts, cases_Bool, or_right, and_right}
-use Rattle.basic_toml_grammar.specs.Sections.{KeyTexts, texts, Raw, Elements, no_elements, element, Rows, no_rows, row}
+use Rattle.basic_toml_grammar.specs.Sections.{Key, KeyTexts, texts, Raw, Elements, no_elements, element}
+use Rattle.basic_toml_grammar.specs.Sections.{Rows, no_rows, row}
 use Rattle.basic_toml_grammar.specs.Steps.{Step, key, number, Path, step_eq, begins, overlap, steps_of}
 use Rattle.basic_toml_grammar.specs.RowClash.{any_overlaps, rows_clash, value_clashes, elements_clash}
 use Rattle.basic_toml_grammar.specs.IndexedPath.{Located}
@@ -83,6 +84,25 @@ chosen : (a b : Bool) (m n : Option Node) (o p : Option Origin) (d : Node) (e : 
     → Same (if a then m else if b then Some d else n) (option_or (if a then o else if b then Some e else None) p)
 chosen a b m n o p d e value table later none = grind (arith, or_none o)
 
+-- a row brings the same where its value and the rows after it do
+row_same : (s at : ℕ) (ks : List Key) (v : Raw) (rows : Rows) (r : Step) (q : Path) (m n : Option Node) (d : Node)
+    → rows_clash (row ks at v rows) ≡ false → keyed_within (row ks at v rows) ≡ true
+    → Same (Some d) (Some (table_origin false at s))
+    → (value_clashes v ≡ false → value_keyed v ≡ true
+    → Same m (value_origins s at v (drop (length (steps_of (texts ks))) (r ∷ q))))
+    → (rows_clash rows ≡ false → keyed_within rows ≡ true → Same n (rows_origins s rows (r ∷ q)))
+    → Same (if begins (steps_of (texts ks)) (r ∷ q) then m
+    else if begins (r ∷ q) (steps_of (texts ks)) then Some d else n) (rows_origins s (row ks at v rows) (r ∷ q))
+row_same s at ks v rows r q m n d apart keyed table value later =
+    let steps = steps_of (texts ks) in
+    let keys_in = and_parts (has_key ks && value_keyed v) (keyed_within rows) keyed in
+    let split = or_parts (any_overlaps steps rows || value_clashes v) (rows_clash rows) apart in
+    let first = or_parts (any_overlaps steps rows) (value_clashes v) split.0 in
+    rw (keys_begin (texts ks) (table_origin false at s) (value_origins s at v) r q)
+    (chosen (begins steps (r ∷ q)) (begins (r ∷ q) steps) m n _ _ d (table_origin false at s)
+    (value first.1 (and_parts (has_key ks) (value_keyed v) keys_in.0).1) table (later split.1 keys_in.1)
+    (λ here. none_later s steps rows r q here first.0))
+
 -- rows with keys bring nothing to numbers
 no_numbers : (s : ℕ) (rows : Rows) (n : ℕ) (p : Path) → keyed_within rows ≡ true
     → rows_origins s rows (number n ∷ p) ≡ None
@@ -119,15 +139,8 @@ mutual
       → Same (node_by keys outer all rows (r ∷ q)) (rows_origins s rows (r ∷ q))
   by_same keys outer s all no_rows r q apart keyed = refl
   by_same keys outer s all (row ks at v rows) r q apart keyed =
-      let steps = steps_of (texts ks) in
-      let keys_in = and_parts (has_key ks && value_keyed v) (keyed_within rows) keyed in
-      let value_in = and_parts (has_key ks) (value_keyed v) keys_in.0 in
-      let split = or_parts (any_overlaps steps rows || value_clashes v) (rows_clash rows) apart in
-      let first = or_parts (any_overlaps steps rows) (value_clashes v) split.0 in
-      rw (keys_begin (texts ks) (table_origin false at s) (value_origins s at v) r q)
-      (chosen (begins steps (r ∷ q)) (begins (r ∷ q) steps) _ _ _ _ _ _
-      (value_same keys (holder_in outer all (front steps)) s at v (drop (length steps) (r ∷ q)) first.1 value_in.1) refl
-      (by_same keys outer s all rows r q split.1 keys_in.1) (λ here. none_later s steps rows r q here first.0))
+      row_same s at ks v rows r q _ _ _ apart keyed refl
+      (value_same keys (holder_in outer all (front (steps_of (texts ks)))) s at v _) (by_same keys outer s all rows r q)
 
 pub begins_front : (p r q : Path) → begins (p ++ r) q ≡ true → begins p q ≡ true
 begins_front [] r q e = refl
@@ -154,26 +167,12 @@ module _ (ls : List Located) (last : Option ℕ) (l : Located) (n : ℕ) where
   rows_same no_rows r q apart keyed = refl
   rows_same (row ks at v rows) r q apart keyed =
       let steps = steps_of (texts ks) in
-      let path = l.path ++ steps in
-      let key_path = texts l.section.header ++ first_key ks in
-      let split = or_parts (any_overlaps steps rows || value_clashes v) (rows_clash rows) apart in
-      let first = or_parts (any_overlaps steps rows) (value_clashes v) split.0 in
-      let keys_in = and_parts (has_key ks && value_keyed v) (keyed_within rows) keyed in
-      let value_in = and_parts (has_key ks) (value_keyed v) keys_in.0 in
-      rw (
-        keys_begin (texts ks) (table_origin false at n) (value_origins n at v) r q,
-        begins_on l.path steps (r ∷ q),
-        begins_on l.path (r ∷ q) steps,
-        drop_on l.path steps (r ∷ q),
-      )
-      (chosen (begins steps (r ∷ q)) (begins (r ∷ q) steps) _ _ _ _ _ _
-      (value_same key_path (holder ls last (front path)) n at v (drop (length steps) (r ∷ q)) first.1 value_in.1) refl
-      (rows_same rows r q split.1 keys_in.1) (λ here. none_later n steps rows r q here first.0))
+      let outer = holder ls last (front (l.path ++ steps)) in
+      rw (begins_on l.path steps (r ∷ q), begins_on l.path (r ∷ q) steps, drop_on l.path steps (r ∷ q))
+      (row_same n at ks v rows r q _ _ _ apart keyed refl
+      (value_same (texts l.section.header ++ first_key ks) outer n at v _) (rows_same rows r q))
 
   -- and elsewhere
-  apart_before : (w steps p : Path) → begins w p ≡ false → begins (w ++ steps) p ≡ false
-  apart_before w steps p not = grind (arith, begins_front w steps p)
-
   apart_after : (w steps p : Path) → begins w p ≡ false → begins p w ≡ false → begins p (w ++ steps) ≡ false
   apart_after [] steps p not back = absurd (false≢true (sym not))
   apart_after (s ∷ w) steps [] not back = absurd (false≢true (sym back))
@@ -188,8 +187,8 @@ module _ (ls : List Located) (last : Option ℕ) (l : Located) (n : ℕ) where
       → node_of_rows ls last l rows p ≡ None
   rows_apart no_rows p not back = refl
   rows_apart (row ks at v rows) p not back =
-      rw (apart_before l.path (steps_of (texts ks)) p not, apart_after l.path (steps_of (texts ks)) p not back)
-      (rows_apart rows p not back)
+      let steps = steps_of (texts ks) in
+      grind (arith, begins_front l.path steps p, apart_after l.path steps p not back, rows_apart rows p not back)
 
   -- a path goes on from the other, or is apart from it
   pub goes_from : (w p : Path) → begins p w ≡ false
@@ -226,6 +225,5 @@ sections_same ls last n (l ∷ later) p back apart keyed =
     let b = or_parts (begins p l.path) (list_any (λ l. begins p l.path) later) back in
     let a = or_parts (rows_clash l.section.rows) (list_any (λ l. rows_clash l.section.rows) later) apart in
     let k = and_parts (keyed_within l.section.rows) (list_all (λ l. keyed_within l.section.rows) later) keyed in
-    or_same (node_of_rows ls last l l.section.rows p) (node_of_sections ls last later p)
-    (along l.path (rows_origins n l.section.rows) p) (sections_origins (suc n) later p)
+    or_same _ (node_of_sections ls last later p) _ (sections_origins (suc n) later p)
     (section_same ls last l n p b.0 a.0 k.0) (sections_same ls last (suc n) later p b.1 a.1 k.1)

@@ -1,6 +1,6 @@
 -- The way of a header through the trie of the sections before it is its indexed path.
 use Rattle.std.proofs.Common.{◌≡◌, inl, inr, ℕ, zero, suc, Bool, true, false, List, [], ◌∷◌, ◌++◌, Some, refl, ap, sym}
-use Rattle.std.proofs.Common.{◌∙◌, reverse, append_assoc}
+use Rattle.std.proofs.Common.{◌∙◌, reverse, append_assoc, arith}
 use Rattle.std.proofs.lemmas.Grind.{reverse_onto}
 use Rattle.basic_toml_grammar.specs.Sections.{KeyTexts, texts, Section}
 use Rattle.basic_toml_grammar.specs.Steps.{key, number, Path}
@@ -37,11 +37,10 @@ ways_are : (st : List Mark) (a : Bool) (cut : Path) (keys : KeyTexts)
 ways_are st a cut [] = refl
 ways_are st true cut (k ∷ []) = ap (λ n. key k ∷ number n ∷ []) (counted st cut k)
 ways_are st false cut (k ∷ []) =
-    rw (counted st cut k) (elim (count_at st (cut ++ key k ∷ [])) as (λ n.
-    key k ∷ way_on (λ t. []) n (below (key k) (descend cut (trie_of st))) ≡ (key k ∷ latest n) ++ []) [
-      | zero ↦ refl
-      | suc n ↦ refl
-    ])
+    grind (arith, counted st cut k, one (count_at st (cut ++ key k ∷ [])))
+  where
+    one : (n : ℕ) → key k ∷ way_on (λ t. []) n (below (key k) (descend cut (trie_of st))) ≡ (key k ∷ latest n) ++ []
+    one n = grind arith
 ways_are st a cut (k ∷ l ∷ keys) =
     let here : Trie = below (key k) (descend cut (trie_of st)) in
     let on : (q : Path) → way a (l ∷ keys) (descend q (descend cut (trie_of st)))

@@ -1,11 +1,11 @@
-use Rattle.std.proofs.Common.{ap, arith, sym, ◌∙◌, refl, map}
-use Rattle.basic_toml_value.specs.Data.{Data, items_of, members_of}
-use Rattle.basic_toml_value.specs.View.{view, entries}
+use Rattle.std.proofs.Common.{ap, arith, sym, ◌∙◌, map}
+use Rattle.basic_toml_value.specs.Data.{items_of}
+use Rattle.basic_toml_value.specs.View.{view}
 use Rattle.basic_toml_value.specs.Entries.{texts_of}
 use Rattle.basic_toml_value.proofs.Sizes.{data_size, items_size}
 use Rattle.basic_toml_plain.specs.Plain.{element_data, rows_data}
 use Rattle.basic_toml_plain.specs.PlainTables.{tables_in}
-use Rattle.basic_toml_plain.specs.Values.{value_pair, section_data}
+use Rattle.basic_toml_plain.specs.Values.{section_data}
 use Rattle.basic_toml_plain.proofs.DataParts.{items_size-at, items_size-front, items_size-last, members_size-at}
 use Rattle.basic_toml_plain.proofs.DataParts.{mapped_more, sections_seen, table_seen, entries_seen}
 use Rattle.basic_toml_tree.specs.Data.{data_of, child_data, table_data, child_pair}
@@ -19,21 +19,10 @@ elements_of-value_of-requires t c =
     let smaller = items_size-at child_data _ _ _ c.loop-child-test.true c.child-item.is in
     (omega (arith, smaller, ap data_size (child_item c.child-item.result)), tt)
 
-pub elements_of-loop-child-preserved : goal.elements_of-loop-child-preserved
-elements_of-loop-child-preserved t c =
-    mapped_more view child_data _ _ _ _ _ _ c.loop-child-test.true c.child-item.is c.in_ok-push.ensures.items
-    c.loop-child.invariant (c.in_ok-value_of.ensures ∙ sym (child_item c.child-item.result))
-
 pub entries_of-value_of-requires : goal.entries_of-value_of-requires
 entries_of-value_of-requires t c =
     let smaller = members_size-at child_pair _ _ _ c.loop-pair-test.true c.pair-item.is in
     (omega (arith, smaller, ap data_size (child_item c.pair-item.result.value)), tt)
-
-pub entries_of-loop-pair-preserved : goal.entries_of-loop-pair-preserved
-entries_of-loop-pair-preserved t c =
-    mapped_more value_pair child_pair _ _ _ _ _ _ c.loop-pair-test.true c.pair-item.is c.in_ok-push.ensures.items
-    c.loop-pair.invariant
-    (rw (c.in_ok-key.ensures.cases, c.in_ok-value.ensures, child_item c.pair-item.result.value) refl)
 
 pub table_of-entries_of-requires : goal.table_of-entries_of-requires
 table_of-entries_of-requires t c =
@@ -56,10 +45,8 @@ table_of-returns-in_err-index-clause-memory t c =
 
 pub table_of-returns-clause-table : goal.table_of-returns-clause-table
 table_of-returns-clause-table t c =
-    ap (λ ps. Data.table (entries ps)) c.from_parts.ensures
-    ∙ ap Data.table (entries_seen c.in_ok-copies.copies.items)
-    ∙ ap (λ ps. Data.table (members_of ps)) c.in_ok-copies.ensures
-    ∙ sym (table_of_pairs c.args.table.now c.entries.result.now c.entries.ensures.pairs)
+    rw (c.from_parts.ensures, entries_seen c.in_ok-copies.copies.items, c.in_ok-copies.ensures)
+    (sym (table_of_pairs c.args.table.now c.entries.result.now c.entries.ensures.pairs))
 
 pub tables_of-table_of-requires : goal.tables_of-table_of-requires
 tables_of-table_of-requires t c =
@@ -90,11 +77,10 @@ value_of-table_of-requires-in-Tables t c =
 pub value_of-returns-in_ok-push-in-Tables : goal.value_of-returns-in_ok-push-in-Tables
 value_of-returns-in_ok-push-in-Tables t c =
     let tables = c.in-Tables.tables in
-    tables_seen c.in_ok-elements-in-Tables.elements c.push.new.self _ tables c.in_ok-push-in-Tables.ensures.items
-    (c.in_ok-elements-in-Tables.ensures ∙ ap (map table_data) c.as_slice-in-Tables.ensures.value
-    ∙ ap (λ ts. map table_data ts.0.items) c.deref-in-Tables.ensures)
-    (table_seen _ ∙ c.in_ok-table_of-in-Tables.ensures.table ∙ ap (λ ts. table_data ts.1) c.deref-in-Tables-2.ensures)
-    ∙ sym (ap data_of c.in-Tables.is)
+    rw c.in-Tables.is
+    (tables_seen c.in_ok-elements-in-Tables.elements c.push.new.self _ tables c.in_ok-push-in-Tables.ensures.items
+    (rw (← c.deref-in-Tables.ensures, ← c.as_slice-in-Tables.ensures.value) c.in_ok-elements-in-Tables.ensures)
+    (table_seen _ ∙ rw c.deref-in-Tables-2.ensures at c.in_ok-table_of-in-Tables.ensures.table))
 
 pub value_of-returns-in_ok-plain_values-in-Plain : goal.value_of-returns-in_ok-plain_values-in-Plain
 value_of-returns-in_ok-plain_values-in-Plain t c =

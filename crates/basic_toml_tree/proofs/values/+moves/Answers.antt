@@ -1,12 +1,10 @@
-use Rattle.std.proofs.Common.{◌≡◌, List, [], ◌∷◌, ◌++◌, map, true, ap, arith, sym, ◌∙◌, refl}
-use Rattle.std.specs.List.{list_all}
-use Rattle.basic_toml_value.specs.Data.{Data, items_of, members_of}
-use Rattle.basic_toml_value.specs.View.{view, entries}
+use Rattle.std.proofs.Common.{◌≡◌, List, ◌∷◌, ◌++◌, map, ap, arith, sym, ◌∙◌, refl}
+use Rattle.basic_toml_value.specs.Data.{items_of}
+use Rattle.basic_toml_value.specs.View.{view}
 use Rattle.basic_toml_value.proofs.Sizes.{data_size, items_size}
 use Rattle.basic_toml_plain.specs.Values.{value_pair}
 use Rattle.basic_toml_plain.proofs.DataParts.{items_size-rest, items_size-front, items_size-last, members_size-rest}
 use Rattle.basic_toml_plain.proofs.DataParts.{table_seen, entries_seen}
-use Rattle.basic_toml_plain.proofs.WhatIsLeft.{mapped_next, none_moved, one_moved}
 use Rattle.basic_toml_tree.specs.Data.{child_data, table_data, child_pair}
 use Rattle.basic_toml_tree.proofs.ItemData.{child_item}
 use Rattle.basic_toml_tree.proofs.ItemData.{table_of_pairs, tables_data, keys_copied, refused_held, tables_seen}
@@ -19,11 +17,6 @@ first_left : {A D : Type 0} (f : A → D) (xs : List D) {x : A} {left rest whole
     → whole ≡ all → xs ++ map f left ≡ map f whole → xs ++ map f (x ∷ rest) ≡ map f all
 first_left f xs first start made = ap (λ l. xs ++ map f l) (sym first) ∙ made ∙ ap (map f) start
 
--- of moved parts nothing more is asked
-all_true : {A : Type 0} (xs : List A) → list_all (λ _. true) xs ≡ true
-all_true [] = refl
-all_true (x ∷ xs) = all_true xs
-
 pub into_elements-into_value-requires : goal.into_elements-into_value-requires
 into_elements-into_value-requires t c =
     let start = c.into_iter-child-iterator.ensures.into_iter_gives ∙ c.drain-child-items.ensures in
@@ -31,47 +24,19 @@ into_elements-into_value-requires t c =
     (first_left child_data _ c.in-Some.ensures.steps start c.loop-child.invariant) in
     (omega (arith, smaller, ap data_size (child_item c.in-Some.child)), tt)
 
-pub into_elements-loop-child-preserved : goal.into_elements-loop-child-preserved
-into_elements-loop-child-preserved t c =
-    mapped_next view child_data _ _ _ _ c.into_iter-child-iterator.result _ _ c.in-Some.ensures.steps
-    c.in_ok-push.ensures.items c.loop-child.invariant
-    (c.in_ok-into_value.ensures ∙ sym (child_item c.in-Some.child))
-
-pub into_many_entries-loop-pair-init : goal.into_many_entries-loop-pair-init
-into_many_entries-loop-pair-init t c =
-    let made = c.in_ok-moved.ensures in
-    none_moved made.items (c.into_iter-pair-iterator.ensures.into_iter_gives ∙ c.drain-pair-items.ensures)
-    (all_true c.args.pairs.items) (omega arith)
-
 pub into_many_entries-into_value-requires : goal.into_many_entries-into_value-requires
 into_many_entries-into_value-requires t c =
+    let start = c.into_iter-pair-iterator.ensures.into_iter_gives ∙ c.drain-pair-items.ensures in
     let smaller = members_size-rest (map value_pair c.loop-pair.moved.items) child_pair _ _ _
-    (rw (c.in-Some.ensures.steps) at c.loop-pair.invariant.made) in
+    (first_left child_pair _ c.in-Some.ensures.steps start c.loop-pair.invariant.made) in
     (omega (arith, smaller, ap data_size (child_item c.in-Some.pair.value)), tt)
-
-pub into_many_entries-loop-pair-preserved : goal.into_many_entries-loop-pair-preserved
-into_many_entries-loop-pair-preserved t c =
-    let pushed = c.push_reserved.ensures in
-    one_moved _ c.in-Some.ensures.steps pushed.items pushed.len pushed.capacity
-    (rw (c.in_ok-value.ensures, child_item c.in-Some.pair.value) refl) c.loop-pair.invariant
-
-pub into_entries-loop-pair-init : goal.into_entries-loop-pair-init
-into_entries-loop-pair-init t c =
-    let made = c.in_ok-moved.ensures in
-    none_moved made.items (c.into_iter-pair-iterator.ensures.into_iter_gives.0) (all_true c.args.pairs.items)
-    (omega arith)
 
 pub into_entries-into_value-requires : goal.into_entries-into_value-requires
 into_entries-into_value-requires t c =
+    let start = c.into_iter-pair-iterator.ensures.into_iter_gives.0 in
     let smaller = members_size-rest (map value_pair c.loop-pair.moved.items) child_pair _ _ _
-    (rw (c.in-Some.ensures.steps.0) at c.loop-pair.invariant.made) in
+    (first_left child_pair _ c.in-Some.ensures.steps.0 start c.loop-pair.invariant.made) in
     (omega (arith, smaller, ap data_size (child_item c.in-Some.pair.value)), tt)
-
-pub into_entries-loop-pair-preserved : goal.into_entries-loop-pair-preserved
-into_entries-loop-pair-preserved t c =
-    let pushed = c.push_reserved.ensures in
-    one_moved _ c.in-Some.ensures.steps.0 pushed.items pushed.len pushed.capacity
-    (rw (c.in_ok-value.ensures, child_item c.in-Some.pair.value) refl) c.loop-pair.invariant
 
 pub into_table-into_entries-requires : goal.into_table-into_entries-requires
 into_table-into_entries-requires t c =
@@ -90,28 +55,15 @@ into_table-returns-in_err-moved-clause-memory t c =
 
 pub into_table-returns-clause-table : goal.into_table-returns-clause-table
 into_table-returns-clause-table t c =
-    ap (λ ps. Data.table (entries ps)) c.from_parts.ensures
-    ∙ ap Data.table (entries_seen c.in_ok-moved.moved.items)
-    ∙ ap (λ ps. Data.table (members_of ps)) c.in_ok-moved.ensures
-    ∙ sym (table_of_pairs c.args.table c.into_parts-pairs.result.0.items c.into_parts-pairs.ensures.pairs)
-
-pub into_tables-loop-table-init : goal.into_tables-loop-table-init
-into_tables-loop-table-init t c =
-    let made = c.in_ok-elements.ensures in
-    none_moved made.items (c.into_iter-table-iterator.ensures.into_iter_gives ∙ c.drain-table-items.ensures)
-    (all_true c.args.tables.items) (omega arith)
+    rw (c.from_parts.ensures, entries_seen c.in_ok-moved.moved.items, c.in_ok-moved.ensures)
+    (sym (table_of_pairs c.args.table c.into_parts-pairs.result.0.items c.into_parts-pairs.ensures.pairs))
 
 pub into_tables-into_table-requires : goal.into_tables-into_table-requires
 into_tables-into_table-requires t c =
+    let start = c.into_iter-table-iterator.ensures.into_iter_gives ∙ c.drain-table-items.ensures in
     let smaller = items_size-rest (map view c.loop-table.elements.items) table_data _ _ _
-    (rw (c.in-Some.ensures.steps) at c.loop-table.invariant.made) in
+    (first_left table_data _ c.in-Some.ensures.steps start c.loop-table.invariant.made) in
     (omega (arith, smaller), tt)
-
-pub into_tables-loop-table-preserved : goal.into_tables-loop-table-preserved
-into_tables-loop-table-preserved t c =
-    let pushed = c.push_reserved.ensures in
-    one_moved _ c.in-Some.ensures.steps pushed.items pushed.len pushed.capacity
-    (table_seen _ ∙ c.in_ok-into_table.ensures.table) c.loop-table.invariant
 
 pub into_array_of_tables-into_tables-requires : goal.into_array_of_tables-into_tables-requires
 into_array_of_tables-into_tables-requires t c =

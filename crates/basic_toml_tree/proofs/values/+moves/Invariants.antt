@@ -1,9 +1,9 @@
-use Rattle.std.proofs.Common.{◌≡◌, ◌+◌, ◌*◌, ◌++◌, map, true}
+use Rattle.std.proofs.Common.{◌≡◌, ◌≤◌, ◌+◌, ◌*◌, ◌++◌, length, map}
+use Rattle.std.specs.Vec.{vec_len, vec_capacity}
 use Rattle.basic_toml_value.specs.Data.{items_of, members_of}
 use Rattle.basic_toml_value.specs.View.{view}
 use Rattle.basic_toml_value.proofs.Sizes.{data_size, items_size, members_size}
 use Rattle.basic_toml_plain.specs.Values.{value_pair}
-use Rattle.basic_toml_plain.proofs.WhatIsLeft.{IsMovedSoFar}
 use Rattle.basic_toml_grow.specs.declared.item.Item.{Array, Tables}
 use Rattle.basic_toml_tree.specs.Data.{data_of, child_data, table_data, child_pair}
 use Rattle.basic_toml_tree.proofs.values.+moves.Given as goal
@@ -42,13 +42,20 @@ invariant-into_elements-loop-child l =
 
 -- and there is room for them
 abbrev pub invariant-into_tables-loop-table : goal.invariant-into_tables-loop-table
-invariant-into_tables-loop-table l =
-    IsMovedSoFar view table_data (λ t. true) l.elements l.table-iterator l.fn.tables.items
+invariant-into_tables-loop-table l = record {
+  made : map view l.elements.items ++ map table_data l.table-iterator ≡ map table_data l.initial.table-iterator;
+  room : vec_len l.elements + length l.table-iterator ≤ vec_capacity l.elements;
+}
 
 abbrev pub invariant-into_many_entries-loop-pair : goal.invariant-into_many_entries-loop-pair
-invariant-into_many_entries-loop-pair l =
-    IsMovedSoFar value_pair child_pair (λ p. true) l.moved l.pair-iterator l.fn.pairs.items
+invariant-into_many_entries-loop-pair l = record {
+  made : map value_pair l.moved.items ++ map child_pair l.pair-iterator ≡ map child_pair l.initial.pair-iterator;
+  room : vec_len l.moved + length l.pair-iterator ≤ vec_capacity l.moved;
+}
 
 abbrev pub invariant-into_entries-loop-pair : goal.invariant-into_entries-loop-pair
-invariant-into_entries-loop-pair l =
-    IsMovedSoFar value_pair child_pair (λ p. true) l.moved l.pair-iterator.rest.items l.fn.pairs.items
+invariant-into_entries-loop-pair l = record {
+  made : map value_pair l.moved.items ++ map child_pair l.pair-iterator.rest.items
+      ≡ map child_pair l.initial.pair-iterator.rest.items;
+  room : vec_len l.moved + length l.pair-iterator.rest.items ≤ vec_capacity l.moved;
+}
