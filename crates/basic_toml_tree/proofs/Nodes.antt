@@ -1,4 +1,5 @@
 -- The nodes of a tree: where they stand, and what they are by the section list.
+pub mod WhatIsThere
 pub mod NodesInOrder
 pub mod NodesStand
 pub mod NodesCome

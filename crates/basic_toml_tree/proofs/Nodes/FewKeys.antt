@@ -40,10 +40,9 @@ less_deep s d e there = absurd (cc)
 
 as_deep : (p : Path) (d e : Data) → data_along p d ≡ Some e → length p ≤ depth d
 as_deep [] d e there = omega arith
-as_deep (s ∷ p) d e there = option_and_then_some (data_along p) (data_by s d) e there (λ x is on.
-    let here = less_deep s d x is in
-    let rest = as_deep p x e on in
-    omega (arith, here, rest))
+as_deep (s ∷ p) d e there =
+    option_and_then_some (data_along p) (data_by s d) e there
+    (λ x is on. omega (arith, less_deep s d x is, as_deep p x e on))
 
 pub few_keys : (sections : List Section) (tree : Tree) → IsResolved sections tree → (p : Path) (d : Data)
     → data_along p (table_data tree.root) ≡ Some d → length (keys_of p) ≤ nesting_limit

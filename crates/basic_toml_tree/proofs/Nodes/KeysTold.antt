@@ -1,13 +1,12 @@
 -- The keys that lead to a node, as the tree has them and as the section list foretells them.
-use Rattle.std.proofs.Common.{◌≡◌, inl, inr, ◌+◌, ℕ, zero, suc, true, false, List, [], ◌∷◌, ◌++◌, length, map, take}
+use Rattle.std.proofs.Common.{◌≡◌, inl, inr, ℕ, zero, suc, true, false, List, [], ◌∷◌, ◌++◌, length, map, take}
 use Rattle.std.proofs.Common.{get_or, Option, Some, None, refl, ap, sym, ◌∙◌, subst, arith, length-append, append_assoc}
-use Rattle.std.specs.Prelude.{◌==◌, ◌<◌, ◌^◌, slice_get, IfSome, IsSomeAnd}
+use Rattle.std.specs.Prelude.{◌==◌, slice_get, IfSome, IsSomeAnd}
 use Rattle.std.proofs.lemmas.Bool.{false≢true, and_parts, and_from, cases_Bool}
 use Rattle.std.proofs.lemmas.List.{take_all}
 use Rattle.std.proofs.lemmas.Slice.Eq.{bytes_eq-Decides}
-use Rattle.std.specs.Str.{bytes_eq}
 use Rattle.basic_toml_grammar.specs.Sections.{KeyTexts, texts, Section}
-use Rattle.basic_toml_grammar.specs.Steps.{Step, key, number, Path, step_eq, begins, steps_of, keys_of}
+use Rattle.basic_toml_grammar.specs.Steps.{Step, key, number, Path, begins, steps_of, keys_of}
 use Rattle.basic_toml_grammar.specs.IndexedPath.{Located, located_after, located_from, located}
 use Rattle.basic_toml_grammar.specs.Trie.{standing}
 use Rattle.basic_toml_grammar.specs.Nodes as grammar
@@ -17,7 +16,7 @@ use Rattle.basic_toml_tree.specs.declared.tree.Tree.{Tree}
 use Rattle.basic_toml_tree.specs.declared.node.Node.{Node}
 use Rattle.basic_toml_grow.specs.declared.item.Item.{Item, out-Item}
 use Rattle.basic_toml_grow.specs.declared.item.Item.TheOpen.{Item-F}
-use Rattle.basic_toml_grow.specs.declared.item.Child.{Child, out-Child}
+use Rattle.basic_toml_grow.specs.declared.item.Child.{Child}
 use Rattle.basic_toml_grow.specs.declared.item.Table.{Table, out-Table}
 use Rattle.basic_toml_tree.specs.declared.spot.Spot.{Spot}
 use Rattle.basic_toml_tree.specs.declared.spot.Spot.TheVariants as spots
@@ -36,15 +35,15 @@ use Rattle.basic_toml_tree.specs.Origin.{header_of, spot_is_made, spot_section, 
 use Rattle.basic_toml_tree.specs.Origin.{keys_of as kept_keys, trail_keys}
 use Rattle.basic_toml_origin.specs.Anchor.{LeadsTo}
 use Rattle.basic_toml_tree.specs.Resolve.{IsResolved, ComesFromHeaders, head}
-use Rattle.basic_toml_tree.specs.Stands.{trie_at, tree_trie, is_root, StandsAt, IsNodeAt, ComesFrom, tree_origins}
-use Rattle.basic_toml_tree.specs.Keys.{header_at, Leads, KeepsHeader, CountsKeys, KeysLead, GoesOn, CountsOn}
-use Rattle.basic_toml_tree.specs.Keys.{KeepsRow, BeginsRow, HandsOn, RowsLead}
+use Rattle.basic_toml_tree.specs.Stands.{trie_at, tree_trie, is_root, StandsAt, IsEntry, IsNodeAt, tree_origins}
+use Rattle.basic_toml_tree.specs.Keys.{header_at, Leads, KeepsHeader, CountsKeys, KeysLead, CountsOn, KeepsRow}
+use Rattle.basic_toml_tree.specs.Keys.{RowsLead}
 use Rattle.basic_toml_tree.specs.Outer.{stands_made}
-use Rattle.basic_toml_tree.proofs.Nodes.KeysLead.{made_before, rows_on}
+use Rattle.basic_toml_tree.proofs.Nodes.KeysLead.{KeepsKeys, made_before, rows_on}
 use Rattle.basic_toml_tree.specs.Nodes.{node_data}
 use Rattle.basic_toml_tree.proofs.Nodes.FewKeys.{few_keys}
 use Rattle.basic_toml_tree.proofs.Nodes.MadeNodes.{made_in_trie, spot_made}
-use Rattle.basic_toml_tree.proofs.Nodes.NodesStand.{KeysOn, Further, no_root}
+use Rattle.basic_toml_tree.proofs.Nodes.NodesStand.{Further, no_root}
 
 -- the keys of a header's path are the header
 located_keys : (s : Section) (before : List Section) → keys_of (located_after before s).path ≡ texts s.header
@@ -57,10 +56,8 @@ located_keys s before =
 begins_keys : (p q : Path) → begins p q ≡ true → begins (steps_of (keys_of p)) (steps_of (keys_of q)) ≡ true
 begins_keys [] q e = refl
 begins_keys (key k ∷ p) (key l ∷ q) e =
-    let both = and_parts (bytes_eq k l) (begins p q) e in
-    and_from (bytes_eq k l) (begins (steps_of (keys_of p)) (steps_of (keys_of q))) both.0 (begins_keys p q both.1)
-begins_keys (number n ∷ p) (number m ∷ q) e =
-    begins_keys p q (and_parts (step_eq (number n) (number m)) (begins p q) e).1
+    let both = and_parts _ _ e in and_from _ _ both.0 (begins_keys p q both.1)
+begins_keys (number n ∷ p) (number m ∷ q) e = begins_keys p q (and_parts _ _ e).1
 begins_keys p q e = absurd (false≢true e)
 
 -- the first keys of a header that begins with them
@@ -69,7 +66,7 @@ first_are : (keys header : KeyTexts) → begins (steps_of keys) (steps_of header
 first_are [] header e = refl
 first_are (k ∷ keys) [] e = absurd (false≢true e)
 first_are (k ∷ keys) (l ∷ header) e =
-    let both = and_parts (bytes_eq k l) (begins (steps_of keys) (steps_of header)) e in
+    let both = and_parts _ _ e in
     rw ((bytes_eq-Decides k l).0 both.0) (ap (λ keys. l ∷ keys) (first_are keys header both.1))
 
 -- a header of the list that leads to what headers made
@@ -138,61 +135,51 @@ section_leads ls p spot n is None has marked = absurd has
 section_leads ls p spot n is (Some o) has marked =
     let same : o.section ≡ n = rw is at marked in rw (← same) has.1
 
-header_keeps : (from node : Node) (k : List ℕ) (c : Child) → GoesOn from node.spot node.trail
-    → ComesFrom (child_origins c) node → (tree : Tree) (p : Path) → StandsAt tree p from
-    → Further tree (p ++ key k ∷ []) node → tree_origins tree (p ++ key k ∷ []) ≡ child_origins c []
-    → KeysLead tree (p ++ key k ∷ []) node
-header_keeps from node k c goes comes tree p stands there here sections resolved made =
-    let path = p ++ key k ∷ [] in
-    let before = stands.keys sections resolved (made_before (located sections) p (key k) made) in
-    let below = no_root p (key k) in
-    let spot = made_spot node tree path
-    (sym (made_in_trie sections (tree_trie tree) resolved.stands path below) ∙ made) there in
-    let section = has_section node.spot spot in
-    let has = rw here at (marked_at (located sections) (tree_origins tree) resolved.marks path below made) in
-    record {
-      section = section.0;
-      trail = rw (section.1) at goes before.section before.trail;
-      leads = header_leads sections tree resolved section.0 path
-          (section_leads (located sections) path node.spot section.0 section.1 (child_origins c []) has comes.marked);
-    }
-
 pub count_keeps : (from node : Node) (k : List ℕ) → CountsOn from node.count → (tree : Tree) (p : Path)
     → StandsAt tree p from → CountsKeys tree (p ++ key k ∷ []) node
 count_keeps from node k counts tree p stands sections resolved =
     let before = stands.count sections resolved in
     let few = few_keys sections tree resolved p (node_data from) stands.holds in
-    let low : from.count + 1 < 2 ^ 64 = omega (arith, before, few) in
-    counts low ∙ rw (before, keys-append p (key k ∷ []), length-append (keys_of p) (k ∷ [])) refl
+    counts (omega (arith, before, few))
+    ∙ rw (before, keys-append p (key k ∷ []), length-append (keys_of p) (k ∷ [])) refl
 
 -- and where a row put what is there
 any_count : (spot : Spot) (count : ℕ) → (count == 0) ≡ false → spot_is_made 1 spot ≡ spot_is_made count spot
 any_count (spots.Table b) count some = rw some refl
 any_count spot count some = refl
 
-row_keeps : (from node : Node) (k : List ℕ) (c : Child)
-    → BeginsRow from k (out-Child c).section node.spot node.trail → HandsOn from node.trail
-    → ComesFrom (child_origins c) node → (node.count == 0) ≡ false → (tree : Tree) (p : Path) → StandsAt tree p from
-    → tree_origins tree (p ++ key k ∷ []) ≡ child_origins c [] → RowsLead tree (p ++ key k ∷ []) node
-row_keeps from node k c row hands comes some tree p stands here =
-    rows_on from node (key k) hands tree p stands (λ sections resolved l is made.
-    let kept = stands.keys sections resolved made in
-    let within : from.tree.now ≡ tree = stands.within in
-    let keys = kept_first from tree p within (stands.count sections resolved) kept in
-    let same : k ≡ l = cc in
-    rw here (some_both (child_origins c []) (child_bears c) comes.own (λ o bears own apart.
-    let spot : spot_is_made 1 node.spot ≡ false =
-    any_count node.spot node.count some ∙ sym (ap (λ o. o.made) (own apart)) ∙ apart in
-    rw (bears apart, ← same, ← keys, ← within) (row kept.section kept.trail spot))))
+-- what is kept of the keys that lead to an entry of a table
+module _ {from node : Node} {k : List ℕ} {c : Child} (is : IsEntry from k c node) (tree : Tree) (p : Path)
+    (stands : StandsAt tree p from) (here : tree_origins tree (p ++ key k ∷ []) ≡ child_origins c []) where
+  header_keeps : Further tree (p ++ key k ∷ []) node → KeysLead tree (p ++ key k ∷ []) node
+  header_keeps there sections resolved made =
+      let path = p ++ key k ∷ [] in
+      let before = stands.keys sections resolved (made_before (located sections) p (key k) made) in
+      let below = no_root p (key k) in
+      let spot = made_spot node tree path
+      (sym (made_in_trie sections (tree_trie tree) resolved.stands path below) ∙ made) there in
+      let section = has_section node.spot spot in
+      let has = rw here at (marked_at (located sections) (tree_origins tree) resolved.marks path below made) in
+      record {
+        section = section.0;
+        trail = rw (section.1) at is.keys before.section before.trail;
+        leads = header_leads sections tree resolved section.0 path (section_leads (located sections) path node.spot
+            section.0 section.1 (child_origins c []) has is.comes.marked);
+      }
 
-pub key_keeps : (from node : Node) (k : List ℕ) (c : Child) → GoesOn from node.spot node.trail
-    → CountsOn from node.count → BeginsRow from k (out-Child c).section node.spot node.trail
-    → HandsOn from node.trail → ComesFrom (child_origins c) node → (node.count == 0) ≡ false → KeysOn from k c node
-key_keeps from node k c goes counts row hands comes some tree p stands there here = (
-  count_keeps from node k counts tree p stands,
-  header_keeps from node k c goes comes tree p stands there here,
-  row_keeps from node k c row hands comes some tree p stands here,
-)
+  row_keeps : RowsLead tree (p ++ key k ∷ []) node
+  row_keeps = rows_on from node (key k) is.handed tree p stands (λ sections resolved l same_key made.
+      let kept = stands.keys sections resolved made in
+      let within : from.tree.now ≡ tree = stands.within in
+      let keys = kept_first from tree p within (stands.count sections resolved) kept in
+      let same : k ≡ l = cc in
+      rw here (some_both (child_origins c []) (child_bears c) is.comes.own (λ o bears own apart.
+      let spot : spot_is_made 1 node.spot ≡ false =
+      any_count node.spot node.count is.below.count ∙ sym (ap (λ o. o.made) (own apart)) ∙ apart in
+      rw (bears apart, ← same, ← keys, ← within) (is.row kept.section kept.trail spot))))
+
+  pub key_keeps : Further tree (p ++ key k ∷ []) node → KeepsKeys tree (p ++ key k ∷ []) node
+  key_keeps there = (count_keeps from node k is.count tree p stands, header_keeps there, row_keeps)
 
 -- the keys that a node keeps of what headers made
 pub made_keys : (sections : List Section) (p : Path) (node : Node) → IsNodeAt sections p node
@@ -234,8 +221,7 @@ record LastMade (ls : List Located) (p : Path) : Type 0 where
 
 made_from : (ls : List Located) (q r : Path) → grammar.is_made ls q ≡ true → grammar.is_made ls (q ++ r) ≡ false
     → LastMade ls (q ++ r)
-made_from ls q [] made not =
-    absurd (false≢true (sym (rw append_none at not) ∙ made))
+made_from ls q [] made not = absurd (false≢true (sym (rw append_none at not) ∙ made))
 made_from ls q (s ∷ r) made not =
     elim (cases_Bool (grammar.is_made ls (q ++ s ∷ []))) [
       | inl more ↦ rw append_assoc at (made_from ls (q ++ s ∷ []) r more (rw append_assoc not))
@@ -275,15 +261,15 @@ module _ (sections : List Section) (node : Node) (p : Path) (is : IsNodeAt secti
         unmade _ x (rw (entry.3) at (told_same sections is.resolved (q ++ s ∷ []) apart)) in
         let rows = rw here at (is.stands.rows sections is.resolved q k r (path ∙ rw step refl) made) in
         let before = stands_before ls q s (not_led ls (q ++ s ∷ []) apart) found.number found.located found.there r
-        (key found.first ∷ found.others) (sym path ∙ found.path) in
+        (key found.row.first ∷ found.row.others) (sym path ∙ found.row.path) in
         rw (
           row_keys tree x.section node.count (keys_of q) k node.trail (rows own),
           header,
           ← (at.1),
-          key_after q found.located.path before.0 r found.others k found.first before.1 (rw (← step) before.2),
+          key_after q found.located.path before.0 r found.row.others k found.row.first before.1 (rw (← step) before.2),
           at.1,
         )
-        (sym found.keys)
+        (sym found.row.keys)
 
     pub row_keys_told : IfSome (grammar.node_at sections p) (λ found. kept_keys node ≡ found.key_path)
     unfolding kept_keys

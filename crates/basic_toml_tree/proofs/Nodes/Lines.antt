@@ -1,7 +1,7 @@
 -- Rows as one list of lines, each with its whole path: which line a path leads to, and where the table around what
 -- stands there begins.
 use Rattle.std.proofs.Common.{◌≡◌, ℕ, Bool, true, false, List, [], ◌∷◌, ◌++◌, Option, Some, None, refl, ap, sym, ◌∙◌}
-use Rattle.std.proofs.Common.{length, drop, inl, inr}
+use Rattle.std.proofs.Common.{length, drop, ◌⊎◌, inl, inr}
 use Rattle.std.specs.Prelude.{◌&&◌, if◌then◌else◌}
 use Rattle.std.specs.List.{list_any}
 use Rattle.std.proofs.Math.Bool.{and-false, and-true}
@@ -44,14 +44,11 @@ ends_in_keys : (p base : Path) (ks : KeyTexts) → begins p (base ++ steps_of ks
 ends_in_keys [] base ks here not = absurd (false≢true (sym not))
 ends_in_keys (s ∷ p) [] [] here not = absurd (false≢true here)
 ends_in_keys (s ∷ []) [] (k ∷ ks) here not =
-    let both = and_parts (step_eq s (key k)) (begins [] (steps_of ks)) here in
-    ap is_key (step_is s (key k) both.0)
+    ap is_key (step_is s (key k) (and_parts _ _ here).0)
 ends_in_keys (s ∷ t ∷ p) [] (k ∷ ks) here not =
-    let both = and_parts (step_eq s (key k)) (begins (t ∷ p) (steps_of ks)) here in
-    ends_in_keys (t ∷ p) [] ks both.1 refl
+    ends_in_keys (t ∷ p) [] ks (and_parts _ _ here).1 refl
 ends_in_keys (s ∷ []) (b ∷ base) ks here not =
-    let both = and_parts (step_eq s b) (begins [] (base ++ steps_of ks)) here in
-    absurd (false≢true (sym (rw (both.0) at not)))
+    let both = and_parts (step_eq s b) true here in absurd (false≢true (sym (rw (both.0) at not)))
 ends_in_keys (s ∷ t ∷ p) (b ∷ base) ks here not =
     let both = and_parts (step_eq s b) (begins (t ∷ p) (base ++ steps_of ks)) here in
     ends_in_keys (t ∷ p) base ks both.1 (rw (both.0) at not)
@@ -106,8 +103,7 @@ goes_by : (p q : Path) → begins p q ≡ true → q ≡ p ++ drop (length p) q
 goes_by [] q e = refl
 goes_by (s ∷ p) [] e = absurd (false≢true e)
 goes_by (s ∷ p) (t ∷ q) e =
-    let both = and_parts (step_eq s t) (begins p q) e in
-    rw (step_is s t both.0) (ap (λ q. t ∷ q) (goes_by p q both.1))
+    let both = and_parts _ _ e in rw (step_is s t both.0) (ap (λ q. t ∷ q) (goes_by p q both.1))
 
 -- a row, with the path of its table
 pub record Line : Type 0 where
@@ -134,12 +130,15 @@ start_among (e ∷ es) p = if begins p (path_of e) then Some e.at else start_amo
 
 -- what is told of the nodes in a value: with no key on the way the outer offset is that of the value, else the table
 -- around begins there
-pub record ValueOuter (v : Raw) : Type 0 where
-  pub bare : (names : KeyTexts) (outer : Option ℕ) (at : ℕ) (x : Path) (n : Node)
-      → node_in names outer at v x ≡ Some n → no_keys x ≡ true → n.outer_offset ≡ outer
-  pub deep : (names : KeyTexts) (outer : Option ℕ) (at : ℕ) (x : Path) (n : Node)
-      → node_in names outer at v x ≡ Some n → no_keys x ≡ false
-      → (m : Node) × (node_in names outer at v (around x) ≡ Some m) × (n.outer_offset ≡ m.start)
+abbrev pub OuterOf : (Path → Option Node) → Option ℕ → Path → Node → Type 0
+OuterOf nodes outer x n =
+    ((no_keys x ≡ true) × (n.outer_offset ≡ outer))
+    ⊎ ((no_keys x ≡ false) × (m : Node) × (nodes (around x) ≡ Some m) × (n.outer_offset ≡ m.start))
+
+abbrev pub ValueOuter : Raw → Type 0
+ValueOuter v =
+    (names : KeyTexts) (outer : Option ℕ) (at : ℕ) (x : Path) (n : Node) → node_in names outer at v x ≡ Some n
+    → OuterOf (node_in names outer at v) outer x n
 
 pub data Sound : List Line → Type 0 where
   none : Sound []
@@ -169,16 +168,15 @@ module _ (holder : Path → Option ℕ) (p : Path) where
   q = around p
 
   off : (e : Line) → begins (path_of e) p ≡ false → begins (path_of e) (around p) ≡ false
-  off e not = false_from_ne_true (begins (path_of e) (around p))
-      (λ x. false≢true (sym not ∙ goes_on (path_of e) (around p) p x (around_begins p)))
+  off e not =
+      false_from_ne_true _ (λ x. false≢true (sym not ∙ goes_on (path_of e) (around p) p x (around_begins p)))
 
   -- an earlier line, which the path does not meet
   later : (e : Line) (es : List Line) (n : Node) → begins (path_of e) p ≡ false → list_any (meets e) es ≡ false
       → Found holder p es n → Found holder p (e ∷ es) n
   later e es n not free (within m f a ends here chosen same) =
-      let apart = false_from_ne_true (begins (around p) (path_of e)) (λ x.
-      false≢true (sym (none_passes (meets e) free a) ∙ or_right (begins (path_of e) (path_of f))
-      (begins (path_of f) (path_of e)) (goes_on (path_of f) (around p) (path_of e) here x))) in
+      let apart = false_from_ne_true _ (λ x. false≢true (sym (none_passes (meets e) free a)
+      ∙ or_right _ _ (goes_on (path_of f) (around p) (path_of e) here x))) in
       within m f (next a) ends here (rw (off e not, apart) chosen) same
   later e es n not free (by_rows m chosen start same) = elim (cases_Bool (begins (around p) (path_of e))) [
     | inl x ↦ by_rows (dotted_node e.names (holder (front (around p))) e.at) (rw (off e not, x) refl) (rw x refl) same
@@ -190,7 +188,7 @@ module _ (holder : Path → Option ℕ) (p : Path) where
       → ValueOuter e.value
       → node_in e.names (holder (front (path_of e))) e.at e.value (drop (length (path_of e)) p) ≡ Some n
       → Found holder p (e ∷ es) n
-  here e es n on ends told is = go (no_keys x) refl
+  here e es n on ends told is = go (told e.names (holder (front (path_of e))) e.at x n is)
     where
       x : Path
       x = drop (length (path_of e)) p
@@ -198,20 +196,20 @@ module _ (holder : Path → Option ℕ) (p : Path) where
       goes : p ≡ path_of e ++ x
       goes = goes_by (path_of e) p on
 
-      go : (b : Bool) → no_keys x ≡ b → Found holder p (e ∷ es) n
-      go true empty =
+      go : OuterOf (node_in e.names (holder (front (path_of e))) e.at e.value) (holder (front (path_of e))) x n
+          → Found holder p (e ∷ es) n
+      go (inl (empty, same)) =
           let there : around p ≡ front (path_of e) = ap around goes ∙ around_front (path_of e) x ends empty in
           let short : begins (path_of e) (around p) ≡ false = rw there (front_short (path_of e) ends) in
           let long : begins (around p) (path_of e) ≡ true = rw there (front_begins (path_of e)) in
           by_rows (dotted_node e.names (holder (front (around p))) e.at) (rw (short, long) refl) (rw long refl)
-          (told.bare e.names (holder (front (path_of e))) e.at x n is empty ∙ ap holder (sym there))
-      go false some =
+          (same ∙ ap holder (sym there))
+      go (inr (some, m, read, same)) =
           let there : around p ≡ path_of e ++ around x = ap around goes ∙ around_on (path_of e) x some in
-          let m = told.deep e.names (holder (front (path_of e))) e.at x n is some in
           let under : begins (path_of e) (around p) ≡ true = rw there (begins_itself (path_of e) (around x)) in
           let left : drop (length (path_of e)) (around p) ≡ around x =
           rw there (drop-append_seam (path_of e) (around x)) in
-          within m.0 e first ends under (rw (under, left) m.1) m.2
+          within m e first ends under (rw (under, left) read) same
 
   -- a line that goes on from the path
   crossing : (e : Line) (es : List Line) → begins (path_of e) p ≡ false → begins p (path_of e) ≡ true
@@ -227,13 +225,12 @@ module _ (holder : Path → Option ℕ) (p : Path) where
       → choose holder es p ≡ Some n → Found holder p es n
   found [] free sound apart n is = absurd (cc)
   found (e ∷ es) (Apart.more free rest) (Sound.more ends told sound) apart n is =
-      let both = or_parts (begins p e.base) (list_any (λ e. begins p e.base) es) apart in
       elim (cases_Bool (begins (path_of e) p)) [
         | inl x ↦ here e es n x ends told (rw x at is)
         | inr x ↦ elim (cases_Bool (begins p (path_of e))) [
           | inl y ↦
               let same : dotted_node e.names (holder (front p)) e.at ≡ n = cc (rw (x, y) at is) in
-              rw (← same) (crossing e es x y both.0)
-          | inr y ↦ later e es n x free (found es rest sound both.1 n (rw (x, y) at is))
+              rw (← same) (crossing e es x y (or_parts _ _ apart).0)
+          | inr y ↦ later e es n x free (found es rest sound (or_parts _ _ apart).1 n (rw (x, y) at is))
         ]
       ]

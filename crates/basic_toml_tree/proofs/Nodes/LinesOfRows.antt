@@ -1,14 +1,13 @@
 -- The rows of values and of section lists, as lines: no line meets another one, and what is told of the nodes in their
 -- values.
 use Rattle.std.proofs.Common.{◌≡◌, ℕ, zero, suc, true, false, List, [], ◌∷◌, ◌++◌, Option}
-use Rattle.std.proofs.Common.{Some, None, refl, sym, ◌∙◌, inl, inr}
-use Rattle.std.specs.Prelude.{◌||◌}
+use Rattle.std.proofs.Common.{Some, refl, sym, ◌∙◌, inl, inr}
 use Rattle.std.specs.List.{list_any, list_all}
 use Rattle.std.proofs.lemmas.Bool.{false≢true, and_parts, or_parts, false_from_ne_true, cases_Bool}
 use Rattle.basic_toml_value.specs.Data.{Data}
 use Rattle.basic_toml_grammar.specs.Sections.{Key, KeyTexts, texts, Raw, Elements, no_elements, element, Rows, no_rows}
 use Rattle.basic_toml_grammar.specs.Sections.{row}
-use Rattle.basic_toml_grammar.specs.Steps.{Step, key, number, Path, step_eq, begins, overlap, steps_of}
+use Rattle.basic_toml_grammar.specs.Steps.{key, number, Path, step_eq, begins, overlap, steps_of}
 use Rattle.basic_toml_grammar.specs.RowClash.{any_overlaps, rows_clash, value_clashes, elements_clash}
 use Rattle.basic_toml_grammar.specs.IndexedPath.{Located}
 use Rattle.basic_toml_grammar.specs.Entering.{keyed_within, value_keyed, elements_keyed}
@@ -20,7 +19,7 @@ use Rattle.basic_toml_grammar.proofs.Clash.ClashesAgree.{turn_eq}
 use Rattle.basic_toml_grammar.proofs.Nesting.TreeIsAsDeepAsMentions.{bars, barred_by, mention, Peace}
 use Rattle.basic_toml_tree.specs.Outer.{no_keys, around}
 use Rattle.basic_toml_tree.proofs.Nodes.Lines.{begun, keys_end, Line, path_of, choose, start_among, Sound}
-use Rattle.basic_toml_tree.proofs.Nodes.Lines.{meets, Apart, Found, within, by_rows, found}
+use Rattle.basic_toml_tree.proofs.Nodes.Lines.{meets, Apart, OuterOf, ValueOuter, Found, within, by_rows, found}
 
 -- rows below a path, each with the key path that its nodes have
 abbrev pub lines_of : Path → (List Key → KeyTexts) → Rows → List Line
@@ -44,10 +43,9 @@ rows_overlap name e (row ks at v rows) = rw (rows_overlap name e rows) refl
 rows_apart : (name : List Key → KeyTexts) (rows : Rows) → rows_clash rows ≡ false → Apart (lines_of [] name rows)
 rows_apart name no_rows free = Apart.none
 rows_apart name (row ks at v rows) free =
-    let split = or_parts (any_overlaps (steps_of (texts ks)) rows || value_clashes v) (rows_clash rows) free in
-    let own = or_parts (any_overlaps (steps_of (texts ks)) rows) (value_clashes v) split.0 in
+    let split = or_parts _ _ free in
     Apart.more (rows_overlap name (record { base = []; steps = texts ks; at = at; value = v; names = name ks }) rows
-    ∙ own.0) (rows_apart name rows split.1)
+    ∙ (or_parts _ _ split.0).0) (rows_apart name rows split.1)
 
 -- the rows of an inline table, as lines
 by_lines : (names : KeyTexts) (outer : Option ℕ) (all rows : Rows) (p : Path)
@@ -60,92 +58,66 @@ starts_by_lines : (name : List Key → KeyTexts) (rows : Rows) (p : Path)
 starts_by_lines name no_rows p = refl
 starts_by_lines name (row ks at v rows) p = rw (starts_by_lines name rows p) refl
 
-no_base : (name : List Key → KeyTexts) (rows : Rows) (s : Step) (p : Path)
-    → list_any (λ (e : Line). begins (s ∷ p) e.base) (lines_of [] name rows) ≡ false
-no_base name no_rows s p = refl
-no_base name (row ks at v rows) s p = no_base name rows s p
+-- a path that does not lead to or through a table is above none of its rows
+pub no_base : (p base : Path) (name : List Key → KeyTexts) (rows : Rows) → begins p base ≡ false
+    → list_any (λ (e : Line). begins p e.base) (lines_of base name rows) ≡ false
+no_base p base name no_rows not = refl
+no_base p base name (row ks at v rows) not = rw not (no_base p base name rows not)
 
 -- a node of an inline table
 module _ (names : KeyTexts) (outer : Option ℕ) (at : ℕ) (rows : Rows) (k : List ℕ) (p : Path) (n : Node) where
-  abbrev Below : Type 0
-  Below = (m : Node) × (node_in names outer at (Raw.inline rows) (around (key k ∷ p)) ≡ Some m)
-      × (n.outer_offset ≡ m.start)
-
-  of_inline : Found (holder_in (Some at) rows) (key k ∷ p) (lines_of [] (λ ks. names) rows) n → Below
+  of_inline : Found (holder_in (Some at) rows) (key k ∷ p) (lines_of [] (λ ks. names) rows) n
+      → OuterOf (node_in names outer at (Raw.inline rows)) outer (key k ∷ p) n
   of_inline (within m l a ends here chosen same) = elim (cases_Bool (no_keys p)) [
     | inl e ↦ absurd (false≢true (sym (begun (path_of l) [] ends (rw e at here))))
-    | inr e ↦ (m, rw e (by_lines names (Some at) rows rows (key k ∷ around p) ∙ (rw e at chosen)), same)
+    | inr e ↦ inr (refl, m, rw e (by_lines names (Some at) rows rows (key k ∷ around p) ∙ (rw e at chosen)), same)
   ]
   of_inline (by_rows m chosen start same) = elim (cases_Bool (no_keys p)) [
-    | inl e ↦ (value_node names outer at (Raw.inline rows), rw e refl, rw e at same)
-    | inr e ↦ (
+    | inl e ↦ inr (refl, value_node names outer at (Raw.inline rows), rw e refl, rw e at same)
+    | inr e ↦ inr (
+      refl,
       m,
       rw e (by_lines names (Some at) rows rows (key k ∷ around p) ∙ (rw e at chosen)),
       (rw e at same) ∙ starts_by_lines (λ ks. names) rows (key k ∷ around p) ∙ sym (rw e at start),
     )
   ]
 
--- with no key on the way the outer offset is that of the value
+-- the outer offsets of the nodes in a value
 mutual
-  bare_in : (v : Raw) (names : KeyTexts) (outer : Option ℕ) (at : ℕ) (x : Path) (n : Node)
-      → node_in names outer at v x ≡ Some n → no_keys x ≡ true → n.outer_offset ≡ outer
-  bare_in v names outer at [] n is none = let same : value_node names outer at v ≡ n = cc in rw (← same) refl
-  bare_in v names outer at (key k ∷ x) n is none = absurd (false≢true none)
-  bare_in (Raw.array es) names outer at (number i ∷ x) n is none = bare_among es names outer i x n is none
-  bare_in v names outer at (number i ∷ x) n is none = absurd (cc)
-
-  bare_among : (es : Elements) (names : KeyTexts) (outer : Option ℕ) (i : ℕ) (x : Path) (n : Node)
-      → node_among names outer es i x ≡ Some n → no_keys x ≡ true → n.outer_offset ≡ outer
-  bare_among no_elements names outer i x n is none = absurd (cc)
-  bare_among (element at v es) names outer zero x n is none = bare_in v names outer at x n is none
-  bare_among (element at v es) names outer (suc i) x n is none = bare_among es names outer i x n is none
-
-abbrev DeepIn : Raw → Type 0
-DeepIn v = (names : KeyTexts) (outer : Option ℕ) (at : ℕ) (x : Path) (n : Node)
-    → node_in names outer at v x ≡ Some n → no_keys x ≡ false
-    → (m : Node) × (node_in names outer at v (around x) ≡ Some m) × (n.outer_offset ≡ m.start)
-
-abbrev DeepAmong : Elements → Type 0
-DeepAmong es = (names : KeyTexts) (outer : Option ℕ) (i : ℕ) (x : Path) (n : Node)
-    → node_among names outer es i x ≡ Some n → no_keys x ≡ false
-    → (m : Node) × (node_among names outer es i (around x) ≡ Some m) × (n.outer_offset ≡ m.start)
-
-mutual
-  deep_in : (v : Raw) → value_clashes v ≡ false → value_keyed v ≡ true → DeepIn v
-  deep_in (Raw.array es) free keyed names outer at (number i ∷ x) n is some =
-      let m = deep_among es free keyed names outer i x n is some in
-      (m.0, rw some m.1, m.2)
-  deep_in (Raw.inline rows) free keyed names outer at (key k ∷ x) n is some =
+  value_outer : (v : Raw) → value_clashes v ≡ false → value_keyed v ≡ true → ValueOuter v
+  value_outer v free keyed names outer at [] n is =
+      let same : value_node names outer at v ≡ n = cc in inl (refl, rw (← same) refl)
+  value_outer (Raw.array es) free keyed names outer at (number i ∷ x) n is =
+      elim (elements_outer es free keyed names outer i x n is) [
+        | inl bare ↦ inl bare
+        | inr deep ↦ inr (deep.0, deep.1, rw (deep.0) deep.2, deep.3)
+      ]
+  value_outer (Raw.inline rows) free keyed names outer at (key k ∷ x) n is =
       of_inline names outer at rows k x n
       (found (holder_in (Some at) rows) (key k ∷ x) (lines_of [] (λ ks. names) rows)
       (rows_apart (λ ks. names) rows free) (rows_sound [] (λ ks. names) rows free keyed)
-      (no_base (λ ks. names) rows (key k) x) n
+      (no_base (key k ∷ x) [] (λ ks. names) rows refl) n
       (sym (by_lines names (Some at) rows rows (key k ∷ x)) ∙ is))
-  deep_in v free keyed names outer at [] n is some = absurd (false≢true (sym some))
-  deep_in v free keyed names outer at x n is some = absurd (cc)
+  value_outer v free keyed names outer at x n is = absurd (cc)
 
-  deep_among : (es : Elements) → elements_clash es ≡ false → elements_keyed es ≡ true → DeepAmong es
-  deep_among no_elements free keyed names outer i x n is some = absurd (cc)
-  deep_among (element at v es) free keyed names outer zero x n is some =
-      deep_in v (or_parts (value_clashes v) (elements_clash es) free).0
-      (and_parts (value_keyed v) (elements_keyed es) keyed).0 names outer at x n is some
-  deep_among (element at v es) free keyed names outer (suc i) x n is some =
-      deep_among es (or_parts (value_clashes v) (elements_clash es) free).1
-      (and_parts (value_keyed v) (elements_keyed es) keyed).1 names outer i x n is some
+  elements_outer : (es : Elements) → elements_clash es ≡ false → elements_keyed es ≡ true → (names : KeyTexts)
+      (outer : Option ℕ) (i : ℕ) (x : Path) (n : Node) → node_among names outer es i x ≡ Some n
+      → OuterOf (node_among names outer es i) outer x n
+  elements_outer no_elements free keyed names outer i x n is = absurd (cc)
+  elements_outer (element at v es) free keyed names outer zero x n is =
+      value_outer v (or_parts _ _ free).0 (and_parts _ _ keyed).0 names outer at x n is
+  elements_outer (element at v es) free keyed names outer (suc i) x n is =
+      elements_outer es (or_parts _ _ free).1 (and_parts _ _ keyed).1 names outer i x n is
 
   pub rows_sound : (base : Path) (name : List Key → KeyTexts) (rows : Rows) → rows_clash rows ≡ false
       → keyed_within rows ≡ true → Sound (lines_of base name rows)
   rows_sound base name no_rows free keyed = Sound.none
   rows_sound base name (row [] at v rows) free keyed = absurd (false≢true keyed)
   rows_sound base name (row (k ∷ ks) at v rows) free keyed =
-      let steps = steps_of (texts (k ∷ ks)) in
-      let split = or_parts (any_overlaps steps rows || value_clashes v) (rows_clash rows) free in
-      let own = or_parts (any_overlaps steps rows) (value_clashes v) split.0 in
-      let parts = and_parts (value_keyed v) (keyed_within rows) keyed in
-      Sound.more (keys_end base k.text (texts ks)) (record {
-        bare = bare_in v;
-        deep = deep_in v own.1 parts.0;
-      }) (rows_sound base name rows split.1 parts.1)
+      let split = or_parts _ _ free in
+      let parts = and_parts _ _ keyed in
+      Sound.more (keys_end base k.text (texts ks)) (value_outer v (or_parts _ _ split.0).1 parts.0)
+      (rows_sound base name rows split.1 parts.1)
 
 -- the rows of all sections
 sound_both : (es fs : List Line) → Sound es → Sound fs → Sound (es ++ fs)
@@ -156,8 +128,8 @@ pub all_sound : (ls : List Located) → list_any (λ l. rows_clash l.section.row
     → list_all (λ l. keyed_within l.section.rows) ls ≡ true → Sound (all_lines ls)
 all_sound [] free keyed = Sound.none
 all_sound (l ∷ ls) free keyed =
-    let a = or_parts (rows_clash l.section.rows) (list_any (λ l. rows_clash l.section.rows) ls) free in
-    let k = and_parts (keyed_within l.section.rows) (list_all (λ l. keyed_within l.section.rows) ls) keyed in
+    let a = or_parts _ _ free in
+    let k = and_parts _ _ keyed in
     sound_both (lines_of l.path (names_of l) l.section.rows) (all_lines ls)
     (rows_sound l.path (names_of l) l.section.rows a.0 k.0) (all_sound ls a.1 k.1)
 
@@ -165,17 +137,13 @@ overlap_barred : (p q : Path) (d c : Data) → overlap p q ≡ true → bars p (
 overlap_barred [] q d c e = refl
 overlap_barred (s ∷ p) [] d c e = refl
 overlap_barred (s ∷ p) (t ∷ q) d c e = elim (cases_Bool (step_eq s t)) [
-  | inl x ↦
-      let back : step_eq t s ≡ true = turn_eq t s ∙ x in
-      rw x (overlap_barred p q d c (rw (x, back) at e))
-  | inr x ↦
-      let back : step_eq t s ≡ false = turn_eq t s ∙ x in
-      absurd (false≢true (rw (x, back) at e))
+  | inl x ↦ rw x (overlap_barred p q d c (rw (turn_eq t s, x) at e))
+  | inr x ↦ absurd (false≢true (rw (turn_eq t s, x) at e))
 ]
 
 not_overlap : (p q : Path) (d c : Data) → bars p (Some d) q (Some c) ≡ false → overlap p q ≡ false
 not_overlap p q d c free =
-    false_from_ne_true (overlap p q) (λ e. false≢true (sym free ∙ overlap_barred p q d c e))
+    false_from_ne_true _ (λ e. false≢true (sym free ∙ overlap_barred p q d c e))
 
 free_rows : (e : Line) (d : Data) (base : Path) (name : List Key → KeyTexts) (rows : Rows) (ms : List Mention)
     (es : List Line) → (list_any (barred_by (mention (path_of e) (Some d))) ms ≡ false → list_any (meets e) es ≡ false)
@@ -184,8 +152,7 @@ free_rows : (e : Line) (d : Data) (base : Path) (name : List Key → KeyTexts) (
 free_rows e d base name no_rows ms es rest free = rest free
 free_rows e d base name (row ks at v rows) ms es rest free =
     let path = base ++ steps_of (texts ks) in
-    let split = or_parts (bars (path_of e) (Some d) path (Some (finished v)))
-    (list_any (barred_by (mention (path_of e) (Some d))) (row_mentions base rows ++ ms)) free in
+    let split = or_parts _ _ free in
     rw (not_overlap (path_of e) path d (finished v) split.0) (free_rows e d base name rows ms es rest split.1)
 
 free_all : (e : Line) (d : Data) (ls : List Located)
@@ -193,9 +160,8 @@ free_all : (e : Line) (d : Data) (ls : List Located)
     → list_any (meets e) (all_lines ls) ≡ false
 free_all e d [] free = refl
 free_all e d (l ∷ ls) free =
-    free_rows e d l.path (names_of l) l.section.rows (mentions ls) (all_lines ls) (λ free. free_all e d ls free)
-    (or_parts (bars (path_of e) (Some d) l.path None)
-    (list_any (barred_by (mention (path_of e) (Some d))) (row_mentions l.path l.section.rows ++ mentions ls)) free).1
+    free_rows e d l.path (names_of l) l.section.rows (mentions ls) (all_lines ls) (free_all e d ls)
+    (or_parts _ _ free).1
 
 apart_rows : (base : Path) (name : List Key → KeyTexts) (rows : Rows) (ls : List Located)
     → (Peace (mentions ls) → Apart (all_lines ls))
@@ -204,9 +170,9 @@ apart_rows base name no_rows ls rest peace = rest peace
 apart_rows base name (row ks at v rows) ls rest (Peace.more e peace) =
     let l : Line = record { base = base; steps = texts ks; at = at; value = v; names = name ks } in
     Apart.more (free_rows l (finished v) base name rows (mentions ls) (all_lines ls)
-    (λ free. free_all l (finished v) ls free) e) (apart_rows base name rows ls rest peace)
+    (free_all l (finished v) ls) e) (apart_rows base name rows ls rest peace)
 
 pub apart_all : (ls : List Located) → Peace (mentions ls) → Apart (all_lines ls)
 apart_all [] peace = Apart.none
 apart_all (l ∷ ls) (Peace.more e peace) =
-    apart_rows l.path (names_of l) l.section.rows ls (λ peace. apart_all ls peace) peace
+    apart_rows l.path (names_of l) l.section.rows ls (apart_all ls) peace

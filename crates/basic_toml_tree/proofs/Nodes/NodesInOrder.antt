@@ -31,7 +31,7 @@ module _ {A : Type 0} where
   -- what is read at a position comes first after those before it
   pub drop_next : (xs : List A) (i : ℕ) (x : A) → slice_get xs i ≡ Some x → drop i xs ≡ x ∷ drop (i + 1) xs
   drop_next xs i x read =
-      drop_more xs i x (slice_get_within xs i x read)
+      drop_more xs i x (slice_get_within _ _ _ read)
       ∙ ap (λ y. y ∷ drop (i + 1) xs) (get_or_from_slice_get xs i x x read)
 
   pub front_read : (xs ys : List A) (i : ℕ) (x : A) → slice_get xs i ≡ Some x → slice_get (xs ++ ys) i ≡ Some x
@@ -49,7 +49,7 @@ module _ {A B : Type 0} (f : A → B) where
 
   pub mapped_read : (xs : List A) (i : ℕ) (x : A) → i < length xs → x ≡ get_or xs i x
       → slice_get (map f xs) i ≡ Some (f x)
-  mapped_read xs i x within read = read_mapped xs i x (slice_get_read xs (length xs) i x refl within read)
+  mapped_read xs i x within read = read_mapped xs i x (slice_get_read _ _ _ _ refl within read)
 
 -- the key and the value at a position, together
 pub pair_read : {A D : Type 0} (f : A → D) (ps : List (List ℕ × A)) (i : ℕ) (k : List ℕ) (v : A)

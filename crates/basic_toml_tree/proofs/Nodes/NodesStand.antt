@@ -30,10 +30,10 @@ use Rattle.basic_toml_tree.specs.declared.plain_value.PlainValue.{PlainValue}
 use Rattle.basic_toml_tree.specs.declared.spot.Spot.{Spot}
 use Rattle.basic_toml_tree.specs.declared.spot.Spot.TheVariants as spots
 use Rattle.basic_toml_grow.specs.Item.{item_trie, child_trie}
-use Rattle.basic_toml_tree.specs.Stands.{trie_at, tree_trie, spot_trie, wraps_table, HoldsTable, IsBelow, is_root}
+use Rattle.basic_toml_tree.specs.Stands.{trie_at, tree_trie, spot_trie, wraps_table, HoldsTable, is_root}
 use Rattle.basic_toml_tree.proofs.Nodes.KeysLead.{KeepsKeys, keys_beside}
 use Rattle.basic_toml_tree.specs.Stands.{StandsAt, StandsOn, IsBeside, is_wrapper, ItemHolds, ComesFrom, node_origins}
-use Rattle.basic_toml_tree.specs.Stands.{StartIsKept, tree_origins, IsPlainElement, spot_origins}
+use Rattle.basic_toml_tree.specs.Stands.{AtKey, StartIsKept, IsPlainElement, spot_origins}
 use Rattle.basic_toml_tree.specs.Data.{child_data, table_data}
 use Rattle.basic_toml_tree.specs.Nodes.{node_data, data_at, elements_in}
 use Rattle.basic_toml_tree.specs.HeaderTables.{table_of}
@@ -44,8 +44,8 @@ use Rattle.basic_toml_tree.proofs.Nodes.PlainNodes.{element_comes}
 use Rattle.basic_toml_grow.proofs.ItemTries.{table_entries_trie}
 use Rattle.basic_toml_grow.proofs.PlainArrays.{plain_trie}
 use Rattle.basic_toml_grow.proofs.ItemsStand.{shape}
-use Rattle.basic_toml_tree.proofs.Nodes.NodesCome.{comes_alike, comes_on, key_origins, literal_comes}
-use Rattle.basic_toml_tree.proofs.Nodes.Lines.{around_key, around_number}
+use Rattle.basic_toml_tree.proofs.Nodes.NodesCome.{comes_on, literal_comes}
+use Rattle.basic_toml_tree.proofs.Nodes.Lines.{around_number}
 use Rattle.basic_toml_tree.proofs.Nodes.NodesInOrder.{array_elements, read_mapped}
 use Rattle.basic_toml_grow.proofs.KeysInATrie.{tries_of}
 
@@ -87,7 +87,7 @@ item_below i (Item-F.Inline table) t k u is own holds =
 item_below i (Item-F.Table table) t k u is own holds = cc
 item_below i x t k u is own holds = absurd holds
 
-spot_below : (spot : Spot) (t : Table) (k : List ℕ) (c : Child) → HoldsTable spot t → wraps_table spot ≡ false
+pub spot_below : (spot : Spot) (t : Table) (k : List ℕ) (c : Child) → HoldsTable spot t → wraps_table spot ≡ false
     → value_at (out-Table t).entries k ≡ Some c → NothingOr (key k) (spot_trie spot) (child_trie c)
 spot_below (spots.Table table) t k c holds own found =
     let same : t ≡ table_of table = holds in
@@ -104,28 +104,29 @@ IsOf t node = (t ≡ nothing) ⊎ ((spot_trie node.spot ≡ t) × (wraps_table n
 abbrev pub Further : Tree → Path → Node → Type 0
 Further tree p node = IsOf (trie_at p (tree_trie tree)) node
 
-abbrev StepsOn : Node → Step → Node → Type 0
+abbrev pub StepsOn : Node → Step → Node → Type 0
 StepsOn from s node = IsOf (below s (spot_trie from.spot)) node
 
 -- one step on from a node
+pub further : (from node : Node) (s : Step) → (wraps_table from.spot ≡ false → StepsOn from s node) → (tree : Tree)
+    (p : Path) → StandsAt tree p from → Further tree (p ++ s ∷ []) node
+further from node s more tree p stands = elim stands.there [
+  | inl none ↦ inl (at_more p s (tree_trie tree) ∙ ap (below s) none)
+  | inr there ↦ rw (at_more p s (tree_trie tree), ← (there.0)) (more there.1)
+]
+
 module _ (from node : Node) (s : Step) (same : node.tree ≡ from.tree)
     (read : data_by s (node_data from) ≡ Some (node_data node))
     (more : wraps_table from.spot ≡ false → StepsOn from s node)
     (comes : (at : ℕ) → ComesFrom (λ q. node_origins at from (s ∷ q)) node) (tree : Tree) (p : Path)
     (stands : StandsAt tree p from) where
-  further : Further tree (p ++ s ∷ []) node
-  further = elim stands.there [
-    | inl none ↦ inl (at_more p s (tree_trie tree) ∙ ap (below s) none)
-    | inr there ↦ rw (at_more p s (tree_trie tree), ← (there.0)) (more there.1)
-  ]
-
   pub stands_on : (node.count == 0) ≡ false → StartIsKept tree (around (p ++ s ∷ [])) node.outer
       → KeepsKeys tree (p ++ s ∷ []) node → StandsAt tree (p ++ s ∷ []) node
   stands_on counted kept keys = record {
     within = ap (λ t. t.now) same ∙ stands.within;
     holds = data_more p s (table_data tree.root) ∙ ap (option_and_then (data_by s)) stands.holds ∙ read;
     root = counted ∙ sym (no_root p s);
-    there = further;
+    there = further from node s more tree p stands;
     comes = comes_on from node s tree p stands.comes comes;
     outer = kept;
     count = keys.0;
@@ -133,33 +134,12 @@ module _ (from node : Node) (s : Step) (same : node.tree ≡ from.tree)
     rows = keys.2;
   }
 
--- what a node keeps of where this one begins
-abbrev pub KeepsBelow : Node → Node → Type 0
-KeepsBelow from node = (tree : Tree) (p : Path) → StandsAt tree p from → StartIsKept tree p node.outer
-
--- what is kept of the keys, one step on from a node
-abbrev pub KeysOn : Node → List ℕ → Child → Node → Type 0
-KeysOn from k c node = (tree : Tree) (p : Path) → StandsAt tree p from → Further tree (p ++ key k ∷ []) node
-    → tree_origins tree (p ++ key k ∷ []) ≡ child_origins c [] → KeepsKeys tree (p ++ key k ∷ []) node
-
-pub key_stands : (from node : Node) (t : Table) (k : List ℕ) (c : Child) → HoldsTable from.spot t
-    → value_at (out-Table t).entries k ≡ Some c → data_at (node_data from) k ≡ Some (node_data node)
-    → IsBelow from (child_trie c) node → ComesFrom (child_origins c) node → KeepsBelow from node → KeysOn from k c node
-    → StandsOn from (key k) node
-key_stands from node t k c holds found read is comes keeps keys tree p stands =
-    let kept = keys tree p stands (further from node (key k) is.tree read more from_there tree p stands)
-    (stands.comes.parts (key k) [] ∙ key_origins from t k c holds found stands.comes.section []) in
-    stands_on from node (key k) is.tree read more from_there tree p stands is.count
-    (rw (around_key p k) (keeps tree p stands)) kept
-  where
-    more : wraps_table from.spot ≡ false → StepsOn from (key k) node
-    more own = elim (spot_below from.spot t k c holds own found) [
-      | inl none ↦ inl none
-      | inr same ↦ inr (is.trie ∙ same, is.own)
-    ]
-
-    from_there : (at : ℕ) → ComesFrom (λ q. node_origins at from (key k ∷ q)) node
-    from_there at = comes_alike (key_origins from t k c holds found at) comes
+-- what is given for a key: the data of the node stand there, and so does the node in the tree
+abbrev pub GivenAt : Node → List ℕ → Node → Type 0
+GivenAt from k node = record {
+  «data» : data_at (node_data from) k ≡ Some (node_data node);
+  stands : AtKey from k node;
+}
 
 -- an array is no root
 abbrev pub tells_table : Trie → Bool

@@ -1,16 +1,15 @@
 -- Where rows put something at a key of a table that headers made, or below it, they are rows of one section: those of
 -- two would clash.
-use Rattle.std.proofs.Common.{◌≡◌, inl, inr, ◌+◌, ℕ, zero, suc, Bool, true, false, List, [], ◌∷◌, ◌++◌, Option}
-use Rattle.std.proofs.Common.{Some, None, refl, ap, sym, ◌∙◌, arith, slice_get, map, append_assoc}
+use Rattle.std.proofs.Common.{◌≡◌, inl, inr, ◌+◌, ℕ, zero, suc, Bool, true, false, List, [], ◌∷◌, ◌++◌}
+use Rattle.std.proofs.Common.{Some, refl, ap, sym, ◌∙◌, arith, slice_get, map, append_assoc}
 use Rattle.std.specs.Prelude.{◌||◌, if◌then◌else◌, IfSome}
 use Rattle.std.specs.List.{list_any, list_all}
-use Rattle.std.specs.Option.{option_or}
 use Rattle.std.proofs.lemmas.Bool.{false≢true, false_from_ne_true, and_parts, or_left, or_right, or_parts, or_cases}
 use Rattle.std.proofs.lemmas.List.Sums.{AllPass-from_list_all}
 use Rattle.std.proofs.lemmas.Map.Keys.{any_passes_from_place}
 use Rattle.std.proofs.lemmas.Option.{IfSome_then, get_or_from_slice_get, slice_get_within}
 use Rattle.basic_toml_grammar.specs.Sections.{KeyTexts, Section}
-use Rattle.basic_toml_grammar.specs.Steps.{Step, key, number, Path, step_eq, path_eq, begins, steps_of}
+use Rattle.basic_toml_grammar.specs.Steps.{Step, key, number, Path, path_eq, begins, steps_of}
 use Rattle.basic_toml_grammar.specs.IndexedPath.{Located, located}
 use Rattle.basic_toml_grammar.specs.SectionClash.{without_last_number, target, inner_beginnings, same_path}
 use Rattle.basic_toml_grammar.specs.SectionClash.{array_on_cut, row_crossed, any_row_clashes, clashes_one_way, clashes}
@@ -25,25 +24,26 @@ use Rattle.basic_toml_tree.proofs.Nodes.KeysLead.{Beyond, compare}
 use Rattle.basic_toml_tree.proofs.Nodes.RowKeys.{Of, along_bears, rows_bear}
 use Rattle.basic_toml_tree.proofs.Nodes.RowNodesTold.{located_keyed}
 use Rattle.basic_toml_tree.proofs.Nodes.RowsReach.{rows_told, along_tells, Over, GoneOn, rows_over}
+use Rattle.basic_toml_tree.proofs.Nodes.WhatIsThere.{cases_Option}
 use Rattle.basic_toml_tree.proofs.Origins.RowsAreNodes.{along_on}
 
 -- sections of the list by their numbers
 none_at : (f : Located → Bool) (ls : List Located) → list_any f ls ≡ false → (m : ℕ) (l : Located)
     → slice_get ls m ≡ Some l → f l ≡ false
 none_at f ls none m l there =
-    false_from_ne_true (f l) (λ e. false≢true (sym none ∙ any_passes_from_place f ls m l there e))
+    false_from_ne_true _ (λ e. false≢true (sym none ∙ any_passes_from_place f ls m l there e))
 
 all_at : (f : Located → Bool) (ls : List Located) → list_all f ls ≡ true → (m : ℕ) (l : Located)
     → slice_get ls m ≡ Some l → f l ≡ true
 all_at f ls all m l there =
-    rw (get_or_from_slice_get ls m l l there) at (AllPass-from_list_all f ls all m l (slice_get_within ls m l there))
+    rw (get_or_from_slice_get ls m l l there) at (AllPass-from_list_all f ls all m l (slice_get_within _ _ _ there))
 
 abbrev At : (Located → Bool) → List Located → Type 0
 At f ls = (m : ℕ) × (l : Located) × (slice_get ls m ≡ Some l) × (f l ≡ true)
 
 some_at : (f : Located → Bool) (ls : List Located) → list_any f ls ≡ true → At f ls
 some_at f [] some = absurd (false≢true some)
-some_at f (i ∷ ls) some = elim (or_cases (f i) (list_any f ls) some) [
+some_at f (i ∷ ls) some = elim (or_cases _ _ some) [
   | inl here ↦ (0, i, refl, here)
   | inr later ↦ let at = some_at f ls later in (suc at.0, at.1, at.2, at.3)
 ]
@@ -54,15 +54,12 @@ pairs_apart [] none a b i j at_a at_b other = absurd (cc)
 pairs_apart (l ∷ ls) none zero zero i j at_a at_b other = absurd (other refl)
 pairs_apart (l ∷ ls) none zero (suc b) i j at_a at_b other =
     let is : l ≡ i = cc in
-    let first = (or_parts (list_any (clashes l) ls) (any_pair clashes ls) none).0 in
-    rw (← is) (or_parts (clashes_one_way l j) (clashes_one_way j l) (none_at (clashes l) ls first b j at_b)).0
+    rw (← is) (or_parts _ _ (none_at (clashes l) ls (or_parts _ _ none).0 b j at_b)).0
 pairs_apart (l ∷ ls) none (suc a) zero i j at_a at_b other =
     let is : l ≡ j = cc in
-    let first = (or_parts (list_any (clashes l) ls) (any_pair clashes ls) none).0 in
-    rw (← is) (or_parts (clashes_one_way l i) (clashes_one_way i l) (none_at (clashes l) ls first a i at_a)).1
+    rw (← is) (or_parts _ _ (none_at (clashes l) ls (or_parts _ _ none).0 a i at_a)).1
 pairs_apart (l ∷ ls) none (suc a) (suc b) i j at_a at_b other =
-    pairs_apart ls (or_parts (list_any (clashes l) ls) (any_pair clashes ls) none).1 a b i j at_a at_b
-    (λ e. other (ap suc e))
+    pairs_apart ls (or_parts _ _ none).1 a b i j at_a at_b (λ e. other (ap suc e))
 
 -- a header below a section's table, on whose path its row goes on
 last_key : (u : Step) (b : Path) (ks : KeyTexts) (z : Path) → steps_of ks ≡ (u ∷ b) ++ z
@@ -93,10 +90,9 @@ any_on u f (p ∷ ps) = ap (λ b. f (u ∷ p) || b) (any_on u f ps)
 
 among_inner : (u : Step) (b : Path) (t : Step) (x : Path) (f : Path → Bool) → f (u ∷ b) ≡ true
     → list_any f (inner_beginnings ((u ∷ b) ++ t ∷ x)) ≡ true
-among_inner u [] t x f e = or_left (f (u ∷ [])) _ e
+among_inner u [] t x f e = or_left _ _ e
 among_inner u (v ∷ b) t x f e =
-    or_right (f (u ∷ [])) _
-    (any_on u f (inner_beginnings ((v ∷ b) ++ t ∷ x)) ∙ among_inner v b t x (λ p. f (u ∷ p)) e)
+    or_right _ _ (any_on u f (inner_beginnings ((v ∷ b) ++ t ∷ x)) ∙ among_inner v b t x (λ p. f (u ∷ p)) e)
 
 crosses : (i j : Located) (ks : KeyTexts) (u : Step) (b : Path) (t : Step) (x : Path) → j.path ≡ i.path ++ u ∷ b
     → steps_of ks ≡ (u ∷ b) ++ t ∷ x → row_crossed i.path (steps_of ks) j ≡ true
@@ -115,16 +111,14 @@ further_clashes i j y z s ([], at, rest) over apart =
     let one = (or_parts (same_path i j) (array_on_cut i j || any_row_clashes i.path i.section.rows j) apart).0 in
     false≢true (sym one ∙ rw (at, append_none i.path) (paths_same i.path))
 further_clashes i j y z s (u ∷ b, at, rest) over apart =
-    let two = (or_parts (same_path i j) (array_on_cut i j || any_row_clashes i.path i.section.rows j) apart).1 in
-    let row = (or_parts (array_on_cut i j) (any_row_clashes i.path i.section.rows j) two).1 in
+    let row = (or_parts _ _ (or_parts _ _ apart).1).1 in
     let on = begun z s over.more in
-    false≢true (sym (over.crossed j row)
-    ∙ crosses i j over.keys u b on.0 on.1 at
+    false≢true (sym (over.crossed j row) ∙ crosses i j over.keys u b on.0 on.1 at
     (rw (over.is, rest, append_assoc b z (s ∷ over.more), on.2) refl))
 
 no_longer : (w : Path) (u : Step) (y : Path) → begins (w ++ u ∷ y) w ≡ true → ⊥
 no_longer [] u y e = false≢true e
-no_longer (s ∷ w) u y e = no_longer w u y (and_parts (step_eq s s) (begins (w ++ u ∷ y) w) e).1
+no_longer (s ∷ w) u y e = no_longer w u y (and_parts _ _ e).1
 
 made_by : (ls : List Located) (w : Path) (u : Step) (y : Path) → is_made ls (w ++ u ∷ y) ≡ true
     → list_any (λ l. begins (w ++ u ∷ y) l.path) ls ≡ true
@@ -146,17 +140,12 @@ Teller n later p = (m : ℕ) × (l : Located) × (slice_get later m ≡ Some l)
 teller : (n : ℕ) (later : List Located) (p : Path) (o : Origin) → sections_origins n later p ≡ Some o
     → Teller n later p
 teller n [] p o told = absurd (cc)
-teller n (l ∷ later) p o told =
-    go (along l.path (rows_origins n l.section.rows) p) refl told (λ told. teller (suc n) later p o told)
-  where
-    go : (a : Option Origin) → along l.path (rows_origins n l.section.rows) p ≡ a
-        → option_or a (sections_origins (suc n) later p) ≡ Some o
-        → (sections_origins (suc n) later p ≡ Some o → Teller (suc n) later p) → Teller n (l ∷ later) p
-    go (Some x) e told below =
-        let is : n + 0 ≡ n = omega arith in (0, l, refl, x, rw is e)
-    go None e told below =
-        let at = below told in
-        let is : n + suc at.0 ≡ suc n + at.0 = omega arith in (suc at.0, at.1, at.2, at.3, rw is at.4)
+teller n (l ∷ later) p o told = elim (cases_Option (along l.path (rows_origins n l.section.rows) p)) [
+  | inl none ↦
+      let at = teller (suc n) later p o (rw none at told) in
+      let is : n + suc at.0 ≡ suc n + at.0 = omega arith in (suc at.0, at.1, at.2, at.3, rw is at.4)
+  | inr some ↦ let is : n + 0 ≡ n = omega arith in (0, l, refl, some.0, rw is some.1)
+]
 
 -- a section below whose table the step is, or something further on, stands before the step
 pub stands_before : (ls : List Located) (q : Path) (s : Step)
@@ -251,23 +240,27 @@ module _ (ls : List Located) (apart : any_pair clashes ls ≡ false)
         → ((b : ℕ) (j : Located) → slice_get later b ≡ Some j → (c : ℕ) × (slice_get ls c ≡ Some j) × (m ≡ c → ⊥))
         → (o : Origin) → Entry q s (suc n) later o → Entry q s n (l ∷ later) o
     later_entry n m l later there within o at =
-        go (along l.path (rows_origins n l.section.rows) (q ++ s ∷ [])) refl
-      where
-        go : (a : Option Origin) → along l.path (rows_origins n l.section.rows) (q ++ s ∷ []) ≡ a
-            → Entry q s n (l ∷ later) o
-        go None e = (at.0, at.1, at.2, rw e at.3, at.4)
-        go (Some x) e =
-            let other = teller (suc n) later (q ++ s ∷ []) at.2 at.3 in
-            let where_j = within other.0 other.1 other.2 in
-            absurd (never_two m where_j.0 l other.1 there where_j.1 where_j.2 (rw e at (passes n m l there []))
-            (rw (other.4) at (passes (suc n + other.0) where_j.0 other.1 where_j.1 [])))
+        elim (cases_Option (along l.path (rows_origins n l.section.rows) (q ++ s ∷ []))) [
+          | inl none ↦ (at.0, at.1, at.2, rw none at.3, at.4)
+          | inr some ↦
+              let other = teller (suc n) later (q ++ s ∷ []) at.2 at.3 in
+              let where_j = within other.0 other.1 other.2 in
+              absurd (never_two m where_j.0 l other.1 there where_j.1 where_j.2
+              (rw (some.1) at (passes n m l there []))
+              (rw (other.4) at (passes (suc n + other.0) where_j.0 other.1 where_j.1 [])))
+        ]
 
     entries_bear : (n : ℕ) (later : List Located) → ((m : ℕ) (l : Located) → slice_get later m ≡ Some l
         → slice_get ls (n + m) ≡ Some l) → (r : Path)
         → IfSome (sections_origins n later (q ++ s ∷ r)) (Entry q s n later)
     entries_bear n [] within r = tt
     entries_bear n (l ∷ later) within r =
-        go (along l.path (rows_origins n l.section.rows) (q ++ s ∷ r)) refl (entries_bear (suc n) later on r)
+        elim (cases_Option (along l.path (rows_origins n l.section.rows) (q ++ s ∷ r))) [
+          | inl none ↦
+              rw none (IfSome_then (sections_origins (suc n) later (q ++ s ∷ r)) (entries_bear (suc n) later on r)
+              (λ o at. later_entry n (n + 0) l later (within 0 l refl) elsewhere o at))
+          | inr some ↦ rw (some.1) (first_entry n (n + 0) l later (within 0 l refl) r some.0 some.1)
+        ]
       where
         on : (m : ℕ) (j : Located) → slice_get later m ≡ Some j → slice_get ls (suc n + m) ≡ Some j
         on m j at =
@@ -276,14 +269,6 @@ module _ (ls : List Located) (apart : any_pair clashes ls ≡ false)
         elsewhere : (b : ℕ) (j : Located) → slice_get later b ≡ Some j
             → (c : ℕ) × (slice_get ls c ≡ Some j) × (n + 0 ≡ c → ⊥)
         elsewhere b j at = (suc n + b, on b j at, λ e. let bad : n + 0 ≡ suc n + b = e in absurd (omega (arith, bad)))
-
-        go : (a : Option Origin) → along l.path (rows_origins n l.section.rows) (q ++ s ∷ r) ≡ a
-            → IfSome (sections_origins (suc n) later (q ++ s ∷ r)) (Entry q s (suc n) later)
-            → IfSome (option_or a (sections_origins (suc n) later (q ++ s ∷ r))) (Entry q s n (l ∷ later))
-        go (Some o) e below = first_entry n (n + 0) l later (within 0 l refl) r o e
-        go None e below =
-            IfSome_then (sections_origins (suc n) later (q ++ s ∷ r)) below
-            (λ o at. later_entry n (n + 0) l later (within 0 l refl) elsewhere o at)
 
 pub entry_bears : (sections : List Section) → sections_clash sections ≡ false → all_keyed_within sections ≡ true
     → (q : Path) (s : Step) (r : Path) → is_made (located sections) q ≡ true

@@ -4,6 +4,7 @@ use Rattle.std.specs.Prelude.{not}
 use Rattle.std.specs.List.{list_any, list_all}
 use Rattle.std.specs.Option.{option_or}
 use Rattle.std.proofs.lemmas.Bool.{false≢true, and_parts, or_parts, cases_Bool}
+use Rattle.std.proofs.lemmas.List.Folds.{list_any-append}
 use Rattle.basic_toml_value.specs.Data.{Data}
 use Rattle.basic_toml_grammar.specs.Sections.{Key, KeyTexts, Rows, no_rows, row}
 use Rattle.basic_toml_grammar.specs.Steps.{Path, step_eq, begins}
@@ -14,14 +15,14 @@ use Rattle.basic_toml_grammar.specs.Mentions.{finished, row_mentions, mentions}
 use Rattle.basic_toml_grammar.specs.Nodes.{Node, is_made, start_in, first_start, holder, node_of_rows, node_of_sections}
 use Rattle.basic_toml_grammar.specs.Tree.{Mention}
 use Rattle.basic_toml_grammar.proofs.AmongElements.{Among, first, next, among_left, among_right, among_either}
-use Rattle.basic_toml_grammar.proofs.Clash.StepTestsDecide.{step_is, step_same}
+use Rattle.basic_toml_grammar.proofs.Clash.ClashesAgree.{turn_eq}
 use Rattle.basic_toml_grammar.proofs.Nesting.TreeIsAsDeepAsMentions.{bars, barred_by, mention, Peace, none, more}
 use Rattle.basic_toml_tree.specs.Outer.{around}
 use Rattle.basic_toml_tree.specs.Stands.{is_root}
 use Rattle.basic_toml_tree.proofs.HeadersMake.{any_of}
 use Rattle.basic_toml_tree.proofs.Nodes.Lines.{Line, path_of, choose, start_among, meets, Apart, Found, within}
 use Rattle.basic_toml_tree.proofs.Nodes.Lines.{begun, by_rows, found, none_passes}
-use Rattle.basic_toml_tree.proofs.Nodes.LinesOfRows.{lines_of, names_of, all_lines, all_sound, apart_all}
+use Rattle.basic_toml_tree.proofs.Nodes.LinesOfRows.{lines_of, names_of, all_lines, all_sound, apart_all, no_base}
 use Rattle.basic_toml_tree.proofs.Origins.RowsAreNodes.{goes_on, neither_begins}
 
 -- the rows of sections, as lines
@@ -41,7 +42,7 @@ module _ (holder : Path → Option ℕ) (p : Path) where
       → choose holder fs p ≡ None
   none_there e [] on free = refl
   none_there e (f ∷ fs) on free =
-      let split = or_parts (meets e f) (list_any (meets e) fs) free in
+      let split = or_parts _ _ free in
       let other = neither_begins (path_of e) (path_of f) p on split.0 in
       rw (other.0, other.1) (none_there e fs on split.1)
 
@@ -58,7 +59,7 @@ module _ (holder : Path → Option ℕ) (p : Path) where
     where
       fs_free : (es : List Line) → list_any (meets e) (es ++ fs) ≡ false → list_any (meets e) fs ≡ false
       fs_free [] free = free
-      fs_free (g ∷ es) free = fs_free es (or_parts (meets e g) (list_any (meets e) (es ++ fs)) free).1
+      fs_free (g ∷ es) free = fs_free es (or_parts _ _ free).1
 
 apart_rest : (es fs : List Line) → Apart (es ++ fs) → Apart fs
 apart_rest [] fs apart = apart
@@ -96,19 +97,15 @@ starts_all (l ∷ ls) p =
     rw (starts_rows l.path (names_of l) l.section.rows p, starts_all ls p) (starts_both own (all_lines ls) p)
 
 -- a path that no header leads to or through is above no table of rows
-base_rows : (p base : Path) (name : List Key → KeyTexts) (rows : Rows) (es : List Line) → begins p base ≡ false
-    → list_any (λ (e : Line). begins p e.base) es ≡ false
-    → list_any (λ (e : Line). begins p e.base) (lines_of base name rows ++ es) ≡ false
-base_rows p base name no_rows es not rest = rest
-base_rows p base name (row ks at v rows) es not rest =
-    rw not (base_rows p base name rows es not rest)
-
 base_all : (p : Path) (ls : List Located) → list_any (λ l. begins p l.path) ls ≡ false
     → list_any (λ (e : Line). begins p e.base) (all_lines ls) ≡ false
 base_all p [] not = refl
 base_all p (l ∷ ls) not =
-    let split = or_parts (begins p l.path) (list_any (λ l. begins p l.path) ls) not in
-    base_rows p l.path (names_of l) l.section.rows (all_lines ls) split.0 (base_all p ls split.1)
+    let split = or_parts _ _ not in
+    rw (
+      list_any-append (λ (e : Line). begins p e.base) (lines_of l.path (names_of l) l.section.rows) (all_lines ls),
+      no_base p l.path (names_of l) l.section.rows split.0,
+    ) (base_all p ls split.1)
 
 -- no header leads to what is below a row
 value_bars : (p q : Path) (d : Data) → begins p q ≡ true
@@ -118,10 +115,8 @@ value_bars [] (t ∷ q) d on = (refl, refl)
 value_bars (s ∷ p) [] d on = absurd (false≢true on)
 value_bars (s ∷ p) (t ∷ q) d on =
     let both = and_parts (step_eq s t) (begins p q) on in
-    let same : s ≡ t = step_is s t both.0 in
-    let back : step_eq t s ≡ true = rw same (step_same t) in
     let rest = value_bars p q d both.1 in
-    (rw (both.0) rest.0, rw back rest.1)
+    (rw (both.0) rest.0, rw (turn_eq t s, both.0) rest.1)
 
 -- two mentions, of which one has a value and the other none, do not bar each other
 not_both : {ms : List Mention} (m n : Mention) (d : Data) → m.value ≡ Some d → n.value ≡ None → Peace ms → Among m ms

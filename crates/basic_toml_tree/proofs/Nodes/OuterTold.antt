@@ -18,6 +18,7 @@ use Rattle.basic_toml_tree.proofs.Nodes.MadeNodes.{made_in_trie, last_same}
 use Rattle.basic_toml_tree.proofs.Nodes.OuterNodes.{OuterBegins, outer_begins}
 use Rattle.basic_toml_tree.proofs.Nodes.RowNodesTold.{RowTold, no_clash, row_told, rows_free, rows_keyed, some_both}
 use Rattle.basic_toml_tree.proofs.Nodes.RowNodesTold.{told_same}
+use Rattle.basic_toml_tree.proofs.Nodes.WhatIsThere.{if_there}
 use Rattle.basic_toml_tree.proofs.Origins.RowsAreNodes.{Same, of_node, of_origin}
 
 -- where a row begins, and that it is kept
@@ -63,13 +64,7 @@ module _ (sections : List Section) (p : Path) (node : Node) (is : IsNodeAt secti
       let ls = located sections in
       let last = grammar.last_at sections in
       some_both (grammar.node_at sections p) (row_told sections p node is not)
-      (rw not (go (grammar.node_of_sections ls last ls p) refl)) (λ found told outer. (told, outer))
-    where
-      go : (n : Option grammar.Node)
-          → grammar.node_of_sections (located sections) (grammar.last_at sections) (located sections) p ≡ n
-          → IfSome n (λ found. option_or node.outer (last_at node.tree.now) ≡ found.outer_offset)
-      go None there = tt
-      go (Some n) there =
-          outer_is n (outer_begins (located sections) (grammar.last_at sections)
-          (mentions_peace sections is.keyed (no_clash sections is.resolved).0 (no_clash sections is.resolved).1)
-          (rows_free sections is.resolved) (rows_keyed sections is.resolved) p not n there)
+      (rw not (if_there (grammar.node_of_sections ls last ls p) (λ n there. outer_is n (outer_begins ls last
+      (mentions_peace sections is.keyed (no_clash sections is.resolved).0 (no_clash sections is.resolved).1)
+      (rows_free sections is.resolved) (rows_keyed sections is.resolved) p not n there))))
+      (λ found told outer. (told, outer))

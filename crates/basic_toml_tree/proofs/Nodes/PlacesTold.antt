@@ -28,8 +28,8 @@ use Rattle.basic_toml_tree.specs.declared.spot.Spot.TheVariants as spots
 use Rattle.basic_toml_tree.specs.Origin.{is_array_literal, item_name, spot_name, spot_is_made, holds_tables, start_of}
 use Rattle.basic_toml_tree.specs.Origin.{outer_of, offset_of, item_is_literal, raw_is_array, last_at as tree_last}
 use Rattle.basic_toml_tree.proofs.Nodes.NodesOfValues.{one_of, in_value}
-use Rattle.basic_toml_tree.proofs.Nodes.RowKeys.{or_some}
 use Rattle.basic_toml_tree.proofs.Nodes.RowNodesTold.{RowTold}
+use Rattle.basic_toml_tree.proofs.Nodes.WhatIsThere.{or_some}
 
 abbrev names_array : List ℕ → Bool
 names_array name = bytes_eq name (codes "array")

@@ -23,7 +23,7 @@ use Rattle.basic_toml_grow.specs.Origins.{value_origins, elements_origins}
 use Rattle.basic_toml_tree.specs.Stands.{SpotComes, ComesFrom, IsPlainElement, spot_origins, node_origins, AtNumber}
 use Rattle.basic_toml_tree.proofs.Nodes.NodesInOrder.{read_mapped}
 use Rattle.basic_toml_tree.proofs.Nodes.NodesCome.{comes_alike}
-use Rattle.basic_toml_tree.proofs.Nodes.RowsReach.{all_so}
+use Rattle.basic_toml_tree.proofs.Nodes.WhatIsThere.{all_so}
 
 -- elements, one after another
 datas_placed : (ls : List Placed) → seen.listed (finished_elements (elements_from ls)) ≡ map (λ e. finished e.value) ls

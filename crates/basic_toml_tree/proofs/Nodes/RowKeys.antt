@@ -1,7 +1,7 @@
 -- The keys that lead to what rows give: those of the section's header, and the first key of the row.
-use Rattle.std.proofs.Common.{◌≡◌, inl, inr, ℕ, zero, suc, ◌+◌, Bool, true, false, List, [], ◌∷◌, ◌++◌, Option}
+use Rattle.std.proofs.Common.{◌≡◌, inl, inr, ℕ, zero, suc, ◌+◌, true, false, List, [], ◌∷◌, ◌++◌, Option}
 use Rattle.std.proofs.Common.{Some, None, refl, ap, sym, ◌∙◌, arith, length, drop, slice_get}
-use Rattle.std.specs.Prelude.{⊤, ◌&&◌, if◌then◌else◌, IfSome}
+use Rattle.std.specs.Prelude.{⊤, IfSome}
 use Rattle.std.specs.List.{list_any, list_all}
 use Rattle.std.specs.Option.{option_or}
 use Rattle.std.proofs.lemmas.Bool.{false≢true, and_parts, or_parts}
@@ -10,7 +10,7 @@ use Rattle.basic_toml_grammar.specs.Sections.{KeyTexts, texts, Raw, Elements, no
 use Rattle.basic_toml_grammar.specs.Steps.{Step, key, number, Path, step_eq, begins, steps_of}
 use Rattle.basic_toml_grammar.specs.RowClash.{rows_clash}
 use Rattle.basic_toml_grammar.specs.IndexedPath.{Located}
-use Rattle.basic_toml_grammar.specs.Entering.{has_key, keyed_within, value_keyed}
+use Rattle.basic_toml_grammar.specs.Entering.{keyed_within}
 use Rattle.basic_toml_grammar.specs.NamedClash.{first_key}
 use Rattle.basic_toml_grammar.specs.Nodes.{Node, front, dotted_node, node_in, holder, node_of_rows, node_of_sections}
 use Rattle.basic_toml_grammar.proofs.Clash.StepTestsDecide.{step_is}
@@ -18,6 +18,7 @@ use Rattle.basic_toml_grow.specs.Origins.{Origin, Origins, under, table_origin, 
 use Rattle.basic_toml_grow.specs.Origins.{row_origins, value_origins, elements_origins, rows_origins}
 use Rattle.basic_toml_grow.specs.Ways.{sections_origins}
 use Rattle.basic_toml_tree.proofs.Nodes.NodesOfValues.{one_of, in_value}
+use Rattle.basic_toml_tree.proofs.Nodes.WhatIsThere.{if_some, or_some}
 use Rattle.basic_toml_tree.proofs.Origins.RowsAreNodes.{Same, begins_on, goes_from, rows_apart, section_same}
 
 -- a row below its section's table
@@ -38,28 +39,15 @@ module _ (ls : List Located) (last : Option ℕ) (l : Located) (r : Step) (q : P
       (node_in keys (holder ls last (front path)) at v (drop (length path) p)) (node_of_rows ls last l rows p)
       (dotted_node keys (holder ls last (front p)) at) FromRow
       (λ e.
-      let both = and_parts (step_eq (key k.text) r) (begins (steps_of (texts ks)) q)
-      (sym (begins_on l.path steps (r ∷ q)) ∙ e) in
-      let is = sym (step_is (key k.text) r both.0) in
+      let is = sym (step_is (key k.text) r (and_parts _ _ (sym (begins_on l.path steps (r ∷ q)) ∙ e)).0) in
       in_value keys FromRow (λ outer at v. (k.text, is, refl)) (λ outer at. (k.text, is, refl))
       (holder ls last (front path)) at v (drop (length path) p))
-      (λ e.
-      let both = and_parts (step_eq r (key k.text)) (begins q (steps_of (texts ks)))
-      (sym (begins_on l.path (r ∷ q) steps) ∙ e) in (k.text, step_is r (key k.text) both.0, refl))
-      (rows_keep rows (and_parts (has_key (k ∷ ks) && value_keyed v) (keyed_within rows) keyed).1)
+      (λ e. (k.text, step_is r (key k.text) (and_parts _ _ (sym (begins_on l.path (r ∷ q) steps) ∙ e)).0, refl))
+      (rows_keep rows (and_parts _ _ keyed).1)
 
 -- what a section brings bears its number
 abbrev pub Of : ℕ → Origin → Type 0
 Of s o = o.section ≡ s
-
-pub if_some : (b : Bool) (o : Option Origin) (P : Origin → Type 0) → (b ≡ true → IfSome o P)
-    → IfSome (if b then o else None) P
-if_some true o P some = some refl
-if_some false o P some = tt
-
-pub or_some : {A : Type 0} (m n : Option A) (P : A → Type 0) → IfSome m P → IfSome n P → IfSome (option_or m n) P
-or_some None n P first later = later
-or_some (Some x) n P first later = first
 
 row_bears : (ks : KeyTexts) (d : Origin) (f : Origins) (P : Origin → Type 0) → P d → ((p : Path) → IfSome (f p) P)
     → (p : Path) → IfSome (row_origins ks d f p) P
@@ -98,16 +86,20 @@ along_bears [] f P below p = below p
 along_bears (s ∷ w) f P below [] = tt
 along_bears (s ∷ w) f P below (t ∷ p) = if_some (step_eq t s) (along w f p) P (λ _. along_bears w f P below p)
 
+-- the first key of the row of a section that leads to a path
+pub record FromSection (l : Located) (p : Path) (m : Node) : Type 0 where
+  pub first : List ℕ
+  pub others : Path
+  pub path : p ≡ l.path ++ key first ∷ others
+  pub keys : m.key_path ≡ texts l.section.header ++ first ∷ []
+
 -- the section whose row leads to a path, by the number that the origin bears
 pub record FoundIn (n : ℕ) (later : List Located) (p : Path) (m : Node) (o : Origin) : Type 0 where
   pub number : ℕ
   pub located : Located
   pub there : slice_get later number ≡ Some located
   pub section : o.section ≡ n + number
-  pub first : List ℕ
-  pub others : Path
-  pub path : p ≡ located.path ++ key first ∷ others
-  pub keys : m.key_path ≡ texts located.section.header ++ first ∷ []
+  pub row : FromSection located p m
 
 abbrev pub Both : Option Node → Option Origin → (Node → Origin → Type 0) → Type 0
 Both (Some m) (Some o) R = R m o
@@ -115,10 +107,6 @@ Both _ _ R = ⊤
 
 -- one section, and the others
 module _ (n : ℕ) (l : Located) (later : List Located) (p : Path) where
-  abbrev FromSection : Node → Type 0
-  FromSection m = (k : List ℕ) × (q : Path) × (p ≡ l.path ++ key k ∷ q)
-      × (m.key_path ≡ texts l.section.header ++ k ∷ [])
-
   later_found : (m : Option Node) (o : Option Origin) → Both m o (FoundIn (suc n) later p)
       → Both m o (FoundIn n (l ∷ later) p)
   later_found None o found = tt
@@ -128,13 +116,10 @@ module _ (n : ℕ) (l : Located) (later : List Located) (p : Path) where
     located = found.located;
     there = found.there;
     section = let is : suc n + found.number ≡ n + suc found.number = omega arith in found.section ∙ is;
-    first = found.first;
-    others = found.others;
-    path = found.path;
-    keys = found.keys;
+    row = found.row;
   }
 
-  one_found : (a c : Option Node) (b d : Option Origin) → Same a b → IfSome a FromSection → IfSome b (Of n)
+  one_found : (a c : Option Node) (b d : Option Origin) → Same a b → IfSome a (FromSection l p) → IfSome b (Of n)
       → Both c d (FoundIn (suc n) later p) → Both (option_or a c) (option_or b d) (FoundIn n (l ∷ later) p)
   one_found None c None d same from of found = later_found c d found
   one_found None c (Some o) d same from of found = absurd (cc)
@@ -144,10 +129,7 @@ module _ (n : ℕ) (l : Located) (later : List Located) (p : Path) where
     located = l;
     there = refl;
     section = let is : n ≡ n + 0 = omega arith in of ∙ is;
-    first = from.0;
-    others = from.1;
-    path = from.2;
-    keys = from.3;
+    row = from;
   }
 
 pub sections_found : (ls : List Located) (last : Option ℕ) (n : ℕ) (later : List Located) (p : Path)
@@ -156,15 +138,20 @@ pub sections_found : (ls : List Located) (last : Option ℕ) (n : ℕ) (later : 
     → Both (node_of_sections ls last later p) (sections_origins n later p) (FoundIn n later p)
 sections_found ls last n [] p back apart keyed = tt
 sections_found ls last n (l ∷ later) p back apart keyed =
-    let b = or_parts (begins p l.path) (list_any (λ l. begins p l.path) later) back in
-    let a = or_parts (rows_clash l.section.rows) (list_any (λ l. rows_clash l.section.rows) later) apart in
-    let k = and_parts (keyed_within l.section.rows) (list_all (λ l. keyed_within l.section.rows) later) keyed in
+    let b = or_parts _ _ back in
+    let a = or_parts _ _ apart in
+    let k = and_parts _ _ keyed in
     one_found n l later p (node_of_rows ls last l l.section.rows p) (node_of_sections ls last later p)
     (along l.path (rows_origins n l.section.rows) p) (sections_origins (suc n) later p)
     (section_same ls last l n p b.0 a.0 k.0) (elim (goes_from ls last l n l.path p b.0) [
       | inl x ↦ rw (x.2) (IfSome_then (node_of_rows ls last l l.section.rows (l.path ++ x.0 ∷ x.1))
           (rows_keep ls last l x.0 x.1 l.section.rows k.0)
-          (λ m row. (row.0, x.1, ap (λ r. l.path ++ r ∷ x.1) row.1, row.2)))
+          (λ m row. record {
+            first = row.0;
+            others = x.1;
+            path = ap (λ r. l.path ++ r ∷ x.1) row.1;
+            keys = row.2;
+          }))
       | inr not ↦ rw (rows_apart ls last l n l.section.rows p not b.0) tt
     ])
     (along_bears l.path (rows_origins n l.section.rows) (Of n) (λ p. rows_bear n l.section.rows p) p)

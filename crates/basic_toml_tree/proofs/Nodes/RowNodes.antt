@@ -2,17 +2,16 @@
 use Rattle.std.proofs.Common.{◌≡◌, ◌<◌, ◌≤◌, ◌+◌, inl, inr, ℕ, zero, suc, Bool, true, false, List, [], ◌∷◌, ◌++◌}
 use Rattle.std.proofs.Common.{Some, None, map, length, take, drop, get_or, refl, ap, sym, ◌∙◌}
 use Rattle.std.proofs.Common.{arith, rules, IsTrue, Vec, Global}
-use Rattle.std.specs.Prelude.{if◌then◌else◌, not, nat_le, slice_get}
+use Rattle.std.specs.Prelude.{if◌then◌else◌, slice_get}
 use Rattle.std.specs.Option.{option_or}
 use Rattle.std.specs.Borrow.{Bor}
 use Rattle.std.specs.Str.{bytes_eq}
 use Rattle.std.proofs.lemmas.Bool.{false≢true, and_parts, or_parts, false_from_ne_true, not-true}
 use Rattle.std.proofs.lemmas.List.{take_more, map-append, length-map, drop_all}
-use Rattle.std.proofs.lemmas.Option.{get_or_from_slice_get, slice_get_within}
+use Rattle.std.proofs.lemmas.Option.{get_or_from_slice_get, slice_get_read, slice_get_within}
 use Rattle.std.specs.Iterator.{MakesProgress, item_count}
 use Rattle.std.specs.declared.iter.Iterator.{can_next-default}
 use Rattle.basic_toml_value.specs.Data.{Data, members_of}
-use Rattle.basic_toml_index.specs.Index.{few}
 use Rattle.basic_toml_index.specs.Keys.{is_among, are_distinct}
 use Rattle.basic_toml_index.proofs.DistinctKeys.{bytes_eq-same, bytes_eq_other, first_differs, is_among-push}
 use Rattle.basic_toml_grammar.specs.IndexedPath.{located}
@@ -47,7 +46,7 @@ use Rattle.basic_toml_tree.specs.Keys.{CountsOn}
 use Rattle.basic_toml_tree.specs.Nodes.{node_data, spot_data, data_among, data_at, entries_in, entries_left}
 use Rattle.basic_toml_tree.specs.Nodes.{key_and_data}
 use Rattle.basic_toml_tree.specs.Origin.{spot_is_made, holds_tables}
-use Rattle.basic_toml_tree.specs.Outer.{kept_below, stands_made}
+use Rattle.basic_toml_tree.specs.Outer.{stands_made}
 use Rattle.basic_toml_tree.specs.Resolve.{IsResolved}
 use Rattle.basic_toml_tree.specs.Stands.{AtKey, IsRowAt, ComesFrom, HoldsRows, ItemRows, RawRows, IsPlainRow, StandsAt}
 use Rattle.basic_toml_tree.specs.Stands.{StandsOn, spot_trie, spot_origins, node_origins, tree_trie, trie_at}
@@ -64,7 +63,7 @@ use Rattle.basic_toml_tree.proofs.Nodes.Lines.{around_key}
 use Rattle.basic_toml_tree.proofs.Nodes.MadeNodes.{made_in_trie, root_at, table_at}
 use Rattle.basic_toml_tree.proofs.Nodes.NodesCome.{comes_alike}
 use Rattle.basic_toml_tree.proofs.Nodes.NodesInOrder.{drop_next, paired-members, read_mapped, progress}
-use Rattle.basic_toml_tree.proofs.Nodes.NodesStand.{at_more, no_root, stands_on}
+use Rattle.basic_toml_tree.proofs.Nodes.NodesStand.{GivenAt, at_more, no_root, stands_on}
 use Rattle.basic_toml_tree.proofs.Nodes.OuterStands.{keeps_below}
 use Rattle.basic_toml_tree.proofs.Nodes.PlainNodes.{value_comes}
 
@@ -86,7 +85,7 @@ none_passed rs n r k within read before other =
 pub first_apart : (r : Row) (rs : List Row) → are_distinct (map key_of (r ∷ rs)) ≡ true
     → (is_among (map key_of rs) (key_of r) ≡ false) × (are_distinct (map key_of rs) ≡ true)
 first_apart r rs differ =
-    let both = and_parts (not (is_among (map key_of rs) (key_of r))) (are_distinct (map key_of rs)) differ in
+    let both = and_parts _ _ differ in
     (not-true (is_among (map key_of rs) (key_of r)) both.0, both.1)
 
 -- a later one has another key
@@ -100,8 +99,7 @@ no_data : (rs : List Row) (k : List ℕ) → is_among (map key_of rs) k ≡ fals
     → data_among (members_of (map row_pair rs)) k ≡ None
 no_data [] k apart = refl
 no_data (r ∷ rs) k apart =
-    let both = or_parts (bytes_eq k (key_of r)) (is_among (map key_of rs) k) apart in
-    rw both.0 (no_data rs k both.1)
+    let both = or_parts (bytes_eq k (key_of r)) (is_among (map key_of rs) k) apart in rw both.0 (no_data rs k both.1)
 
 -- the origins of a row beside those of the others
 beside_origins : (s : ℕ) (r : Row) (rs : List Row) (k : List ℕ) (q : Path) (b : Bool) → bytes_eq k (key_of r) ≡ b
@@ -115,7 +113,7 @@ no_more_origins : (s : ℕ) (rs : List Row) (k : List ℕ) (q : Path) → is_amo
     → rows_origins s (rows_seen [] rs) (key k ∷ q) ≡ None
 no_more_origins s [] k q apart = refl
 no_more_origins s (r ∷ rs) k q apart =
-    let both = or_parts (bytes_eq k (key_of r)) (is_among (map key_of rs) k) apart in
+    let both = or_parts _ _ apart in
     beside_origins s r rs k q false both.0 ∙ no_more_origins s rs k q both.1
 
 -- and of the key that one of them has
@@ -199,7 +197,7 @@ means (spots.Plain v) rs simple holds = go (raws.out-Raw v.value.now) refl holds
 -- the keys of simple rows differ, and their data is that of a table
 module _ (rs : List Row) (simple : are_few_simple 0 rs ≡ true) where
   pub rows_simple : are_simple 0 rs ≡ true
-  rows_simple = (and_parts (nat_le (length rs) few) (are_simple 0 rs) simple).1
+  rows_simple = (and_parts _ _ simple).1
 
   pub rows_differ : are_distinct (map key_of rs) ≡ true
   rows_differ = keys_differ 0 rs rows_simple
@@ -275,34 +273,32 @@ module _ (from node : Node) (rs : List Row) (holds : HoldsRows from.spot rs) (si
       let unmade = means.unmade from.count in
       let none : wraps_table from.spot ≡ false → below (key (key_of r)) (spot_trie from.spot) ≡ nothing =
       λ own. ap (below (key (key_of r))) (means.trie own) in
-      let found : data_at (node_data from) (key_of r) ≡ Some (node_data node) =
-      rw (means.is_data, row_node_data from node r is) (key_found rs simple n r read) in
-      let outer : node.outer ≡ kept_below from = rw (is.outer, unmade) refl in
-      stands_on from node (key (key_of r)) is.tree found (λ own. inl (none own)) row_comes tree p stands is.nested
-      (rw (around_key p (key_of r)) (keeps_below from node outer tree p stands))
+      stands_on from node (key (key_of r)) is.tree
+      (rw (means.is_data, row_node_data from node r is) (key_found rs simple n r read)) (λ own. inl (none own))
+      row_comes tree p stands is.nested
+      (rw (around_key p (key_of r)) (keeps_below from node (rw (is.outer, unmade) refl) tree p stands))
       (row_keeps from node (key_of r) unmade none is.trail tree p stands is.count)
 
 -- the row that is found at a key of such rows
 module _ (rs : List Row) (simple : are_few_simple 0 rs ≡ true) (k : List ℕ) (r : Row) (found : IsRowAt rs k r) where
   pub found_plain : is_plain (out-Row r).value 0 ≡ true
   found_plain =
-      plain_at rs simple found.0 r (slice_get_within rs found.0 r found.1)
-      (sym (get_or_from_slice_get rs found.0 r r found.1))
+      plain_at rs simple found.0 r (slice_get_within _ _ _ found.1) (sym (get_or_from_slice_get rs found.0 r r found.1))
 
-  pub found_data : (from node : Node) → node_data from ≡ rows_data rs → node_data node ≡ plain_data (out-Row r).value
-      → data_at (node_data from) k ≡ Some (node_data node)
-  found_data from node here is =
-      rw (here, ← (found.2), is) (key_found rs simple found.0 r found.1)
-
-  pub found_stands : (from node : Node) → HoldsRows from.spot rs → IsPlainRow from r node → AtKey from k node
-  found_stands from node holds is =
-      rw (← (found.2)) (row_stands from node rs holds simple found.0 r found.1 is)
+  pub found_row : (from node : Node) → node_data from ≡ rows_data rs → HoldsRows from.spot rs → IsPlainRow from r node
+      → GivenAt from k node
+  found_row from node here holds is = rw (← (found.2)) (record {
+    «data» = rw (here, row_node_data from node r is) (key_found rs simple found.0 r found.1);
+    stands = row_stands from node rs holds simple found.0 r found.1 is;
+  })
 
 -- An iterator gives an entry of its table, and goes on to the next.
-pub record GivesNext (before : Entries) (entry : Bor (List ℕ) × Node) (after : Entries) : Type 0 where
-  pub steps : GivesEntry before (Some entry) after
-  pub goes : MakesProgress (can_next-default Entries (Bor (List ℕ) × Node)) (item_count entries_left) before
-      (Some entry) after
+abbrev pub GivesNext : Entries → Bor (List ℕ) × Node → Entries → Type 0
+GivesNext before entry after = record {
+  steps : GivesEntry before (Some entry) after;
+  goes : MakesProgress (can_next-default Entries (Bor (List ℕ) × Node)) (item_count entries_left) before (Some entry)
+      after;
+}
 
 pub gives_next : (before : Entries) (entry : Bor (List ℕ) × Node)
     → slice_get (entries_in (node_data before.table)) before.at ≡ Some (key_and_data entry)
@@ -333,9 +329,15 @@ module _ (before : Entries) (rs : List Row) (here : node_data before.table ≡ r
   no_row_left past = none_left before (rw entries_seen (omega (arith, length-map rs row_pair, past)))
 
   -- the row at its place comes first of what is left, and the iterator goes on
-  pub gives_row : (r : Row) (k : Bor (List ℕ)) (node : Node) → slice_get rs before.at ≡ Some r → k.now ≡ key_of r
-      → node_data node ≡ plain_data (out-Row r).value → AtKey before.table (key_of r) node
+  pub gives_row : (r : Row) (k : Bor (List ℕ)) (node : Node) → before.at < length rs → r ≡ get_or rs before.at r
+      → k.now ≡ key_of r → (is_plain (out-Row r).value 0 ≡ true → node_data node ≡ plain_data (out-Row r).value)
+      → (slice_get rs before.at ≡ Some r → AtKey before.table (key_of r) node)
       → GivesNext before (k, node) (record { table = before.table; at = before.at + 1 })
-  gives_row r k node read same is stands =
-      gives_next before (k, node)
-      (rw (entries_seen, read_mapped row_pair rs before.at r read, same, is) refl) (rw same stands)
+  gives_row r k node within read same is stands =
+      let there = slice_get_read _ _ _ _ refl within read in
+      gives_next before (k, node) (rw (
+        entries_seen,
+        read_mapped row_pair rs before.at r there,
+        same,
+        is (plain_at rs simple before.at r within read),
+      ) refl) (rw same (stands there))

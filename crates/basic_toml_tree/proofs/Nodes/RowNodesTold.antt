@@ -39,7 +39,7 @@ not_led ls (s ∷ p) not = not
 -- the sections of a list that has a tree, and what rows made there
 module _ (sections : List Section) {tree : Tree} (resolved : IsResolved sections tree) where
   pub no_clash : (has_row_clash sections ≡ false) × (sections_clash sections ≡ false)
-  no_clash = or_parts (has_row_clash sections) (sections_clash sections) resolved.clash
+  no_clash = or_parts _ _ resolved.clash
 
   pub rows_free : list_any (λ l. rows_clash l.section.rows) (located sections) ≡ false
   rows_free = located_any (λ s. rows_clash s.rows) [] sections ∙ no_clash.0
@@ -68,8 +68,7 @@ told_by node s None o same own = tt
 told_by node s (Some m) None same own = absurd (cc)
 told_by node s (Some m) (Some o) same own =
     let both : of_node m ≡ of_origin o = cc in
-    let is : o ≡ spot_origin node.count node.spot node.start s = own (sym (ap (λ t. t.made) both)) in
-    let told = sym (ap of_origin is) ∙ sym both in
+    let told = sym (ap of_origin (own (sym (ap (λ t. t.made) both)))) ∙ sym both in
     record {
       made = ap (λ t. t.made) told;
       name = ap (λ t. t.name) told;

@@ -1,7 +1,7 @@
 -- Which keys rows lead over: what tells of a path tells of its beginnings, and a row that leads to it goes over them.
 use Rattle.std.proofs.Common.{◌≡◌, ◌⊎◌, inl, inr, ℕ, zero, suc, Bool, true, false, List, [], ◌∷◌, ◌++◌, Option}
 use Rattle.std.proofs.Common.{Some, None, refl, ap, sym, ◌∙◌, slice_get, append_assoc}
-use Rattle.std.specs.Prelude.{◌||◌, ◌&&◌, if◌then◌else◌, IfSome}
+use Rattle.std.specs.Prelude.{◌||◌, if◌then◌else◌, IfSome}
 use Rattle.std.specs.Option.{option_or}
 use Rattle.std.proofs.lemmas.Bool.{false≢true, and_parts, or_parts, cases_Bool}
 use Rattle.std.proofs.lemmas.Option.{IfSome_then}
@@ -10,20 +10,15 @@ use Rattle.basic_toml_grammar.specs.Sections.{Key, row}
 use Rattle.basic_toml_grammar.specs.Steps.{Step, key, number, Path, step_eq, begins, steps_of}
 use Rattle.basic_toml_grammar.specs.IndexedPath.{Located}
 use Rattle.basic_toml_grammar.specs.SectionClash.{row_on_path, row_crossed, any_row_clashes}
-use Rattle.basic_toml_grammar.specs.Entering.{has_key, keyed_within, value_keyed}
+use Rattle.basic_toml_grammar.specs.Entering.{keyed_within}
 use Rattle.basic_toml_grammar.proofs.Clash.StepTestsDecide.{step_is}
 use Rattle.basic_toml_grow.specs.Origins.{Origin, Origins, entry, under, table_origin, along}
 use Rattle.basic_toml_grow.specs.Origins.{row_origins, value_origins, elements_origins, rows_origins}
-use Rattle.basic_toml_tree.proofs.Nodes.RowKeys.{if_some, or_some}
+use Rattle.basic_toml_tree.proofs.Nodes.WhatIsThere.{all_so, if_some, if_there, or_some}
 use Rattle.basic_toml_tree.proofs.Origins.RowsAreNodes.{begins_front}
 
 abbrev pub Told : Option Origin → Type 0
 Told o = (x : Origin) × (o ≡ Some x)
-
--- what holds anyway
-pub all_so : (o : Option Origin) (T : Type 0) → T → IfSome o (λ x. T)
-all_so None T so = tt
-all_so (Some x) T so = so
 
 some_told : (o : Option Origin) (x : Origin) → IfSome o (λ y. Told (Some x))
 some_told o x = all_so o (Told (Some x)) (x, refl)
@@ -86,11 +81,7 @@ abbrev pub On : Path → Origins → Path → Origin → Type 0
 On w f p o = (x : Path) × (p ≡ w ++ x) × (f x ≡ Some o)
 
 pub along_tells : (w : Path) (f : Origins) (p : Path) → IfSome (along w f p) (On w f p)
-along_tells [] f p = it (f p) refl
-  where
-    it : (m : Option Origin) → f p ≡ m → IfSome m (On [] f p)
-    it None e = tt
-    it (Some o) e = (p, refl, e)
+along_tells [] f p = if_there (f p) (λ o is. (p, refl, is))
 along_tells (s ∷ w) f [] = tt
 along_tells (s ∷ w) f (t ∷ p) = elim (cases_Bool (step_eq t s)) [
   | inl e ↦ rw e (IfSome_then (along w f p) (along_tells w f p)
@@ -149,9 +140,8 @@ ends_nowhere w k ks at v rows y (inr gone) rest is =
     let steps = steps_of (texts (k ∷ ks)) in
     let on : begins (w ++ steps) gone.0.path ≡ true =
     begins_front (w ++ steps) rest gone.0.path (rw (append_assoc w steps rest, ← is) gone.1) in
-    let apart = or_parts (row_on_path w steps gone.0 || row_crossed w steps gone.0) (any_row_clashes w rows gone.0)
-    gone.2 in
-    false≢true (sym (or_parts (row_on_path w steps gone.0) (row_crossed w steps gone.0) apart.0).0 ∙ on)
+    let apart = or_parts _ _ gone.2 in
+    false≢true (sym (or_parts _ _ apart.0).0 ∙ on)
 
 pub rows_over : (n : ℕ) (w : Path) (rows : Rows) (y : Path) (s : Step) (r : Path) → keyed_within rows ≡ true
     → GoneOn w rows y → IfSome (rows_origins n rows (y ++ s ∷ r)) (λ x. Over w rows y s)
@@ -164,7 +154,7 @@ rows_over n w (row (k ∷ ks) at v rows) y s r keyed gone =
     or_some (row_origins (texts (k ∷ ks)) d f p) (rows_origins n rows p) (λ x. Over w (row (k ∷ ks) at v rows) y s)
     (IfSome_then (row_origins (texts (k ∷ ks)) d f p) (row_over k.text (texts ks) d f y s r) (λ x over. here over))
     (IfSome_then (rows_origins n rows p)
-    (rows_over n w rows y s r (and_parts (has_key (k ∷ ks) && value_keyed v) (keyed_within rows) keyed).1 (less gone))
+    (rows_over n w rows y s r (and_parts _ _ keyed).1 (less gone))
     (λ x over. later over))
   where
     parts : (j : Located) → any_row_clashes w (row (k ∷ ks) at v rows) j ≡ false

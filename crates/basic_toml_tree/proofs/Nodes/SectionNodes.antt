@@ -21,7 +21,7 @@ use Rattle.basic_toml_grow.specs.declared.item.Table.{Table, out-Table}
 use Rattle.basic_toml_grow.proofs.ItemsStand.{shape}
 use Rattle.basic_toml_grow.proofs.SectionTables.{entries_are, row_child_trie, section_trie}
 use Rattle.basic_toml_tree.specs.Data.{child_data, data_of, table_data}
-use Rattle.basic_toml_tree.specs.Nodes.{data_at, fields_data, node_data}
+use Rattle.basic_toml_tree.specs.Nodes.{fields_data, node_data}
 use Rattle.basic_toml_tree.specs.Stands.{AtKey, HoldsFields, HoldsTable, IsEntry, IsRowAt, is_wrapper}
 use Rattle.basic_toml_tree.specs.declared.node.Node.{Node}
 use Rattle.basic_toml_tree.specs.declared.spot.Fields.{Fields}
@@ -30,7 +30,8 @@ use Rattle.basic_toml_tree.specs.declared.spot.Spot.{Spot}
 use Rattle.basic_toml_tree.proofs.ItemData.{child_item}
 use Rattle.basic_toml_tree.proofs.SectionData.{section_rows, section_table_data}
 use Rattle.basic_toml_tree.proofs.TrieData.{item_trie_data}
-use Rattle.basic_toml_tree.proofs.Nodes.EntryNodes.{entry_data, entry_stands}
+use Rattle.basic_toml_tree.proofs.Nodes.EntryNodes.{entry_given, entry_stands}
+use Rattle.basic_toml_tree.proofs.Nodes.NodesStand.{GivenAt}
 use Rattle.basic_toml_tree.proofs.Nodes.RowNodes.{first_apart, later_key, rows_differ}
 
 -- the entry of a row
@@ -70,12 +71,9 @@ module _ (from node : Node) (s : ℕ) (rows : List Row) (holds : HoldsTable from
       entry_stands (section_table s rows) holds whole (section_at s rows simple n r read) is
 
   pub section_found : (k : List ℕ) (r : Row) → IsRowAt rows k r → IsEntry from (key_of r) (child_of s r) node
-      → (data_at (node_data from) k ≡ Some (node_data node)) × AtKey from k node
+      → GivenAt from k node
   section_found k r found is =
-      rw (← (found.2)) (
-        entry_data (section_table s rows) holds whole (section_at s rows simple found.0 r found.1) is,
-        section_row_stands found.0 r found.1 is,
-      )
+      rw (← (found.2)) (entry_given (section_table s rows) holds whole (section_at s rows simple found.0 r found.1) is)
 
 -- what stands for the table of a header, of which one header alone speaks
 module _ (c : Child) (rows : List Row) (is : (out-Child c).item ≡ items.Section rows)

@@ -36,8 +36,7 @@ find_number : (k n m : ℕ) (ts : List Trie) (u : Trie) → m ≡ k + n → slic
 find_number k n m [] u is found = absurd (cc)
 find_number k zero m (t ∷ ts) u is found =
     let same : nat_eq k m ≡ true = grind (arith, is) in
-    let this : t ≡ u = cc in
-    rw same this
+    rw same (cc)
 find_number k (suc n) m (t ∷ ts) u is found =
     let other : nat_eq k m ≡ false = grind (arith, is) in
     rw other (find_number (suc k) n m ts u (omega (arith, is)) found)

@@ -1,4 +1,4 @@
-use Rattle.std.proofs.Common.{ap, sym, ◌∙◌, length, refl}
+use Rattle.std.proofs.Common.{ap, sym, ◌∙◌, refl}
 use Rattle.std.specs.Str.{bytes_eq}
 use Rattle.std.proofs.lemmas.List.{take_all}
 use Rattle.std.proofs.lemmas.Slice.Eq.{bytes_eq-Decides}
@@ -8,11 +8,11 @@ use Rattle.basic_toml_tree.proofs.node.row_at.Goals as goal
 
 pub returns-then-eq : goal.returns-then-eq
 returns-then-eq c =
-    let rows = c.args.rows.now in
-    let read = slice_get_read rows (length rows) c.loop-row.row-index c.row-item.result refl c.loop-row-test.true
-    c.row-item.is in
-    let same = (bytes_eq-Decides c.as_str.result.now c.args.key.now).0 (sym c.eq.ensures ∙ c.if-eq.true) in
-    (c.loop-row.row-index, read, sym c.as_str.ensures.value ∙ same)
+    let same = (bytes_eq-Decides c.as_str.result.now c.args.key.now).0 (sym c.eq.ensures ∙ c.if-eq.true) in (
+      c.loop-row.row-index,
+      slice_get_read _ _ _ _ refl c.loop-row-test.true c.row-item.is,
+      sym c.as_str.ensures.value ∙ same,
+    )
 
 pub loop-row-preserved : goal.loop-row-preserved
 loop-row-preserved c =

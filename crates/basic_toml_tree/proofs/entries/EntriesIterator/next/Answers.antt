@@ -1,6 +1,5 @@
-use Rattle.std.proofs.Common.{◌≡◌, ◌∙◌, arith, length, rules, refl}
+use Rattle.std.proofs.Common.{◌≡◌, ◌∙◌, arith, rules}
 use Rattle.std.proofs.lemmas.List.{length-map}
-use Rattle.std.proofs.lemmas.Option.{slice_get_read}
 use Rattle.basic_toml_grow.specs.declared.item.Table.{out-Table}
 use Rattle.basic_toml_tree.specs.Data.{child_data, table_data}
 use Rattle.basic_toml_tree.specs.Nodes.{node_data}
@@ -26,12 +25,11 @@ returns-else-at-len c =
     let child = c.value.result.now in
     let holds : HoldsTable c.args.self.now.table.spot table = search rules in
     let whole : node_data c.args.self.now.table ≡ table_data table = search rules in
-    let given = gives_next c.args.self.now (c.key-key.result, c.below.result)
+    gives_next c.args.self.now (c.key-key.result, c.below.result)
     (rw (whole, table_entries table, c.below.ensures.holds) (pair_read child_data (out-Table table).entries at key child
     c.key-key.ensures c.value.ensures))
     (entry_stands table holds whole
-    (entry_at table at key child c.entries-pairs.ensures.distinct c.key-key.ensures c.value.ensures) c.below.ensures) in
-    record { steps = given.steps; goes = given.goes }
+    (entry_at table at key child c.entries-pairs.ensures.distinct c.key-key.ensures c.value.ensures) c.below.ensures)
 
 -- the rows of an inline table
 pub plain_row-requires : goal.plain_row-requires
@@ -52,12 +50,11 @@ returns-in_ok-row-in-Rows c =
     let rows = c.in-Rows.rows.now in
     let r = c.in_ok-row-in-Rows.row.now in
     let table = rw c.in-Rows.is at c.in_ok-table.ensures in
-    let lookup = c.in_ok-row-in-Rows.ensures.lookup in
-    let there = slice_get_read rows (length rows) c.args.self.now.at r refl lookup.3.0 lookup.1 in
-    let given = gives_row c.args.self.now rows table.«data» table.fields.1 r c.as_str.result c.plain_row.result there
-    c.as_str.ensures.value (row_node_data from c.plain_row.result r c.plain_row.ensures) (row_stands from
-    c.plain_row.result rows table.fields.0 table.fields.1 c.args.self.now.at r there c.plain_row.ensures) in
-    record { steps = given.steps; goes = given.goes }
+    let read = c.in_ok-row-in-Rows.ensures.lookup in
+    gives_row c.args.self.now rows table.«data» table.fields.1 r c.as_str.result c.plain_row.result read.3.0 read.1
+    c.as_str.ensures.value (λ plain. row_node_data from c.plain_row.result r c.plain_row.ensures)
+    (λ there. row_stands from c.plain_row.result rows table.fields.0 table.fields.1 c.args.self.now.at r there
+    c.plain_row.ensures)
 
 -- the rows of a section
 pub section_row-requires : goal.section_row-requires
@@ -78,12 +75,9 @@ returns-in_ok-row-in-Section c =
     let rows = c.in-Section.rows.now in
     let r = c.in_ok-row-in-Section.row.now in
     let table = rw c.in-Section.is at c.in_ok-table.ensures in
-    let lookup = c.in_ok-row-in-Section.ensures.lookup in
-    let there = slice_get_read rows (length rows) c.args.self.now.at r refl lookup.3.0 lookup.1 in
-    let given = gives_row c.args.self.now rows table.«data» table.fields.1 r c.as_str-in-Section.result
-    c.section_row.result there c.as_str-in-Section.ensures.value
-    (c.section_row.ensures.holds ∙ section_row_data c.in-Section.section r
-    (plain_at rows table.fields.1 c.args.self.now.at r lookup.3.0 lookup.1)) (section_row_stands from
-    c.section_row.result c.in-Section.section rows table.fields.0 table.«data» table.fields.1 c.args.self.now.at r there
-    c.section_row.ensures) in
-    record { steps = given.steps; goes = given.goes }
+    let read = c.in_ok-row-in-Section.ensures.lookup in
+    gives_row c.args.self.now rows table.«data» table.fields.1 r c.as_str-in-Section.result c.section_row.result
+    read.3.0 read.1 c.as_str-in-Section.ensures.value
+    (λ plain. c.section_row.ensures.holds ∙ section_row_data c.in-Section.section r plain)
+    (λ there. section_row_stands from c.section_row.result c.in-Section.section rows table.fields.0 table.«data»
+    table.fields.1 c.args.self.now.at r there c.section_row.ensures)

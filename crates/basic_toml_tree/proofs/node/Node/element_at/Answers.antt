@@ -1,5 +1,5 @@
 use Rattle.std.proofs.Common.{◌≡◌, ◌∷◌, [], ◌++◌, length, Some, ap, sym, ◌∙◌, arith, rules, refl, length-append}
-use Rattle.std.proofs.lemmas.Option.{slice_get_read}
+use Rattle.std.proofs.lemmas.Option.{slice_get_read, slice_get_within}
 use Rattle.std.specs.Prelude.{slice_get}
 use Rattle.std.proofs.lemmas.List.{length-map}
 use Rattle.std.proofs.lemmas.Grind.{common_steps}
@@ -15,7 +15,6 @@ use Rattle.basic_toml_tree.proofs.Nodes.NodesInOrder.{array_elements, sections_e
 use Rattle.basic_toml_tree.proofs.Nodes.NodesInOrder.{front_read, last_read}
 use Rattle.basic_toml_tree.specs.declared.spot.HeaderTable.TheVariants.{Entries}
 use Rattle.basic_toml_tree.specs.declared.spot.Spot.TheVariants as spots
-use Rattle.basic_toml_tree.specs.Stands.{AtNumber}
 use Rattle.basic_toml_tree.proofs.Nodes.NodesStand.{literal_stands, plain_stand, value_stands}
 use Rattle.basic_toml_tree.proofs.Nodes.TablesStand.{section_among, table_among, table_stands}
 use Rattle.basic_toml_tree.proofs.ItemData.{plain_item, rows_item}
@@ -25,46 +24,40 @@ use Rattle.basic_toml_tree.proofs.Nodes.PlainNodes.{plain_given}
 
 pub returns-in-Some : goal.returns-in-Some
 returns-in-Some c =
-    let all = c.deref.result.now in
-    let child = c.in-Some.child.now in
     let lookup = c.in-Some.ensures.lookup in
     let given = literal_stands c.args.self c.element.result c.args.at c.in-Item-Array.field-0 (search (rules))
-    c.in-Item-Array.children c.element.result.spot child (search (rules))
-    (ap (λ xs. slice_get xs c.args.at) (sym c.deref.ensures.value)
-    ∙ slice_get_read all (length all) c.args.at child refl lookup.3.0 lookup.1)
+    c.in-Item-Array.children c.element.result.spot c.in-Some.child.now (search (rules))
+    (ap (λ xs. slice_get xs c.args.at) (sym c.deref.ensures.value) ∙ slice_get_read _ _ _ _ refl lookup.3.0 lookup.1)
     c.element.ensures.«data» c.element.ensures.beside c.element.ensures.comes in
     record { within = λ some. grind (arith, common_steps); «data» = given.0; stands = given.1 }
 
 pub returns-in-None-clause-data : goal.returns-in-None-clause-data
 returns-in-None-clause-data c =
     let here : node_data c.args.self ≡ data_of (Array c.in-Item-Array.children) = search (rules) in
-    let past = c.in-None.ensures.lookup.3 in
     let long = simp length-map at (ap (λ d. length (elements_in d)) here
     ∙ ap length (array_elements c.in-Item-Array.children)) in
-    omega (arith, past, long, ap length c.deref.ensures.value)
+    omega (arith, c.in-None.ensures.lookup.3, long, ap length c.deref.ensures.value)
 
 -- tables
 pub returns-else-at-earlier-clause-data : goal.returns-else-at-earlier-clause-data
 returns-else-at-earlier-clause-data c =
     let whole = c.as_slice-earlier.ensures.value ∙ ap (λ ts. ts.0.items) c.deref-in-Item-Tables.ensures in
     let here : node_data c.args.self ≡ data_of (Tables c.in-Item-Tables.tables) = search (rules) in
-    let past = c.in-None-get.ensures.lookup.3 in
     let long = simp (length-append, length-map) at (ap (λ d. length (elements_in d)) here
     ∙ ap length (tables_elements c.in-Item-Tables.tables)) in
-    omega (arith, past, long, ap length whole, c.if-at-earlier.false)
+    omega (arith, c.in-None-get.ensures.lookup.3, long, ap length whole, c.if-at-earlier.false)
 
 pub returns-in-Some-get : goal.returns-in-Some-get
 returns-in-Some-get c =
     let tables = c.in-Item-Tables.tables in
     let whole = c.as_slice-earlier.ensures.value ∙ ap (λ ts. ts.0.items) c.deref-in-Item-Tables.ensures in
     let t = c.in-Some-get.table in
-    let all = c.as_slice-earlier.result.now in
     let lookup = c.in-Some-get.ensures.lookup in
     let given = table_stands c.args.self c.element_table.result c.args.at c.in-Item-Tables.field-0 (Entries t)
     (search (rules)) (Tables tables) (search (rules)) (table_among tables c.args.at t.now
     (front_read tables.value.0.items (tables.value.1 ∷ []) c.args.at t.now
     (ap (λ ts. slice_get ts c.args.at) (sym whole)
-    ∙ slice_get_read all (length all) c.args.at t.now refl lookup.3.0 lookup.1)))
+    ∙ slice_get_read _ _ _ _ refl lookup.3.0 lookup.1)))
     c.element_table.ensures.beside c.element_table.ensures.start in
     record { within = λ some. grind (arith, common_steps); «data» = given.0; stands = given.1 }
 
@@ -81,23 +74,19 @@ returns-then-at-earlier c =
     c.element_table-then-at-earlier.ensures.beside c.element_table-then-at-earlier.ensures.start in
     record { within = λ some. grind (arith, common_steps); «data» = given.0; stands = given.1 }
 
-section : (c : goal.After-section_element)
-    → (slice_get (elements_in (node_data c.args.self)) c.args.at ≡ Some (node_data c.section_element.result))
-    × AtNumber c.args.self c.args.at c.section_element.result
-section c =
+pub returns-in-Some-get-2 : goal.returns-in-Some-get-2
+returns-in-Some-get-2 c =
     let tables = c.in-Item-Sections.tables in
     let t : SectionTable = (c.in-Some-get-2.section, c.in-Some-get-2.rows.now) in
-    table_stands c.args.self c.section_element.result c.args.at c.in-Item-Sections.field-0 _
+    let given = table_stands c.args.self c.section_element.result c.args.at c.in-Item-Sections.field-0 _
     (search (rules)) (Sections tables) (search (rules)) (section_among tables c.args.at t
     (ap (λ ts. slice_get (tables_in ts) c.args.at) (sym c.deref-in-Item-Sections-2.ensures)
     ∙ c.in-Some-get-2.ensures.table) c.in-Some-get-2.ensures.plain)
-    c.section_element.ensures.beside c.section_element.ensures.start
-
-pub returns-in-Some-get-2-clause-data : goal.returns-in-Some-get-2-clause-data
-returns-in-Some-get-2-clause-data c = (section c).0
-
-pub returns-in-Some-get-2-clause-stands : goal.returns-in-Some-get-2-clause-stands
-returns-in-Some-get-2-clause-stands c = (section c).1
+    c.section_element.ensures.beside c.section_element.ensures.start in
+    let whole = c.deref-in-Item-Sections-2.ensures in
+    let at = slice_get_within (tables_in c.deref-in-Item-Sections-2.result.now) c.args.at t
+    c.in-Some-get-2.ensures.table in
+    record { within = λ some. grind (arith, at, whole, c.len-count.ensures); «data» = given.0; stands = given.1 }
 
 pub returns-in-None-get-2-clause-data : goal.returns-in-None-get-2-clause-data
 returns-in-None-get-2-clause-data c =

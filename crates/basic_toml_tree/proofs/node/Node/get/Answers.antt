@@ -3,8 +3,8 @@ use Rattle.basic_toml_tree.specs.Data.{table_data}
 use Rattle.basic_toml_tree.specs.Nodes.{node_data}
 use Rattle.basic_toml_tree.specs.Stands.{HoldsTable}
 use Rattle.basic_toml_tree.proofs.ItemData.{data_at_absent}
-use Rattle.basic_toml_tree.proofs.Nodes.EntryNodes.{entry_data, entry_stands}
-use Rattle.basic_toml_tree.proofs.Nodes.RowNodes.{found_data, found_plain, found_stands, key_absent, row_node_data}
+use Rattle.basic_toml_tree.proofs.Nodes.EntryNodes.{entry_given}
+use Rattle.basic_toml_tree.proofs.Nodes.RowNodes.{found_plain, found_row, key_absent}
 use Rattle.basic_toml_tree.proofs.Nodes.SectionNodes.{section_found}
 use Rattle.basic_toml_tree.proofs.node.Node.get.Goals as goal
 
@@ -18,11 +18,8 @@ returns-in-Some c =
     let table = c.in-Table.table.now in
     let holds : HoldsTable c.args.self.spot table = search rules in
     let whole : node_data c.args.self ≡ table_data table = search rules in
-    let is = rw (c.as_str.ensures.value ∙ c.in-Some.ensures.same) at c.below.ensures in
-    record {
-      «data» = entry_data table holds whole c.in-Some.ensures.value is;
-      stands = entry_stands table holds whole c.in-Some.ensures.value is;
-    }
+    entry_given table holds whole c.in-Some.ensures.value
+    (rw (c.as_str.ensures.value ∙ c.in-Some.ensures.same) at c.below.ensures)
 
 -- a row of an inline table
 pub plain_row-requires : goal.plain_row-requires
@@ -33,14 +30,8 @@ plain_row-requires c =
 pub returns-in-Some-row_at : goal.returns-in-Some-row_at
 returns-in-Some-row_at c =
     let table = rw c.in-Rows.is at c.in_ok-table.ensures in
-    let r = c.in-Some-row_at.row.now in
-    let node = c.plain_row.result in
-    record {
-      «data» = found_data c.in-Rows.rows.now table.fields.1 c.args.key.now r c.in-Some-row_at.ensures c.args.self node
-          table.«data» (row_node_data c.args.self node r c.plain_row.ensures);
-      stands = found_stands c.in-Rows.rows.now table.fields.1 c.args.key.now r c.in-Some-row_at.ensures c.args.self node
-          table.fields.0 c.plain_row.ensures;
-    }
+    found_row c.in-Rows.rows.now table.fields.1 c.args.key.now c.in-Some-row_at.row.now c.in-Some-row_at.ensures
+    c.args.self c.plain_row.result table.«data» table.fields.0 c.plain_row.ensures
 
 pub returns-in-None-clause-data : goal.returns-in-None-clause-data
 returns-in-None-clause-data c =
@@ -57,10 +48,9 @@ section_row-requires c =
 pub returns-in-Some-row_at-2 : goal.returns-in-Some-row_at-2
 returns-in-Some-row_at-2 c =
     let table = rw c.in-Section.is at c.in_ok-table.ensures in
-    let found = section_found c.args.self c.section_row.result c.in-Section.section c.in-Section.rows.now
+    section_found c.args.self c.section_row.result c.in-Section.section c.in-Section.rows.now
     table.fields.0 table.«data» table.fields.1 c.args.key.now c.in-Some-row_at-2.row.now c.in-Some-row_at-2.ensures
-    c.section_row.ensures in
-    record { «data» = found.0; stands = found.1 }
+    c.section_row.ensures
 
 pub returns-in-None-row_at-clause-data : goal.returns-in-None-row_at-clause-data
 returns-in-None-row_at-clause-data c =

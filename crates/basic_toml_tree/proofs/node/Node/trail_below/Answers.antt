@@ -6,7 +6,6 @@ use Rattle.basic_toml_tree.proofs.node.Node.trail_below.Goals.{then-len-self+in_
 
 pub returns-in-Some-get-clause-row : goal.returns-in-Some-get-clause-row
 returns-in-Some-get-clause-row c = λ s kept apart.
-    let tree = c.args.self.tree.now in
     let len = length (header_at c.args.self.tree.now c.args.section) in
     let same : c.in-Header.header ≡ s = cc (c.in-Header.is, kept) in
     let count = sym (ap length c.keys-len.ensures) ∙ text_count c.keys-len.result.now in
@@ -15,13 +14,12 @@ returns-in-Some-get-clause-row c = λ s kept apart.
     rw (← same, ← (c.keys.ensures), count, c.as_str.ensures.value) (key_there c.keys.result.now
     (length c.keys-len.result.now) c.in-Some-get.first.now at.3.0 at.1) in (
       refl,
-      among_first (header_at tree s) c.args.self.count len c.args.key.now c.as_str.result.now
+      among_first (header_at c.args.self.tree.now s) c.args.self.count len c.args.key.now c.as_str.result.now
           (omega (arith, c.if-len-self.true, count)) first,
     )
 
 pub returns-clause-row : goal.returns-clause-row
 returns-clause-row c = λ s kept apart.
-    let keys = header_at c.args.self.tree.now s in
     let len = length (header_at c.args.self.tree.now c.args.section) in
     let same : c.in-Header.header ≡ s = cc (c.in-Header.is, kept) in
     let count = sym (ap length c.keys-len.ensures) ∙ text_count c.keys-len.result.now in
@@ -33,4 +31,4 @@ returns-clause-row c = λ s kept apart.
           omega (arith, w.in_default-get.ensures.lookup.3, all, count)
       | else-len-self w ↦ omega (arith, w.if-len-self.false, count)
     ] in
-    (refl, past_first keys c.args.self.count len c.args.key.now past)
+    (refl, past_first (header_at c.args.self.tree.now s) c.args.self.count len c.args.key.now past)
