@@ -1,5 +1,6 @@
 -- The value that is crossed has its fault among those of its list, and where none is, there is no such fault.
-use Rattle.std.proofs.Common.{◌≡◌, ◌<◌, ℕ, List, [], ◌∷◌, ◌++◌, refl, ap, ◌∙◌, Option, Some, None, subst, arith}
+use Rattle.std.proofs.Common.{◌≡◌, inl, inr, ◌<◌, ℕ, List, [], ◌∷◌, ◌++◌, refl, ap, ◌∙◌, Option, Some, None, subst}
+use Rattle.std.proofs.Common.{arith}
 use Rattle.std.specs.Prelude.{Contains}
 use Rattle.std.specs.List.{flat_map}
 use Rattle.std.specs.Option.{option_or}
@@ -11,8 +12,8 @@ use Rattle.basic_toml_grow.specs.Crossed.{no_ends, and_end, crossed_after, cross
 use Rattle.basic_toml_grow.specs.Crossed.{crossed_within, crossed_in, first_crossed}
 use Rattle.basic_toml_grow.specs.KeyTree.{Ends, value_on}
 use Rattle.basic_toml_grow.proofs.RowsGoOn.{faults_between, value_faults, Reached, row_followed, row_goes_on}
-use Rattle.basic_toml_grow.proofs.RowsGoOn.{no_faults, own_is_fault, value_is_fault}
-use Rattle.basic_toml_grow.proofs.ValuesOnTheWay.{row_ends}
+use Rattle.basic_toml_grow.proofs.RowsGoOn.{no_faults, is_fault}
+use Rattle.basic_toml_grow.proofs.ValuesOnTheWay.{row_ends, some_or_none}
 
 -- one of these faults, or none of them
 abbrev pub Tells : Option ℕ → List Fault → Type 0
@@ -29,16 +30,12 @@ tells_after : (all left : Rows) (ends : Ends) → Reached all left ends
     → Tells (crossed_after ends left) (faults_between all)
 tells_after all no_rows ends reached = reached.none (λ p s there. refl) refl
 tells_after all (row keys at value left) ends reached =
-    go (value_on ends (texts keys)) refl (tells_after all left (and_end ends (texts keys) at))
-  where
-    go : (o : Option ℕ) → value_on ends (texts keys) ≡ o
-        → (Reached all left (and_end ends (texts keys) at)
-        → Tells (crossed_after (and_end ends (texts keys) at) left) (faults_between all))
-        → Tells (option_or o (crossed_after (and_end ends (texts keys) at) left)) (faults_between all)
-    go (Some s) on further = row_goes_on all left ends ends keys at value reached s on
-    go None on further =
-        further (row_followed all left ends (and_end ends (texts keys) at) keys at value reached
-        (row_ends ends (texts keys) at on))
+    let after = and_end ends (texts keys) at in
+    elim (some_or_none (value_on ends (texts keys))) [
+      | inl on ↦ rw on.1 (row_goes_on all left ends ends keys at value reached on.0 on.1)
+      | inr none ↦ rw none (tells_after all left after
+          (row_followed all left ends after keys at value reached (row_ends ends (texts keys) at none)))
+    ]
 
 pub tells_between : (rows : Rows) → Tells (crossed_between rows) (faults_between rows)
 tells_between rows = tells_after rows rows no_ends
@@ -46,8 +43,8 @@ tells_between rows = tells_after rows rows no_ends
 
 tells_rows : (a b : Option ℕ) (rows : Rows) → Tells a (faults_between rows) → Tells b (value_faults rows)
     → Tells (option_or a b) (dotted_faults rows)
-tells_rows (Some at) b rows x y = own_is_fault rows (dotted_fault at) x
-tells_rows None (Some at) rows x y = value_is_fault rows (dotted_fault at) y
+tells_rows (Some at) b rows x y = is_fault rows (dotted_fault at) (inl x)
+tells_rows None (Some at) rows x y = is_fault rows (dotted_fault at) (inr y)
 tells_rows None None rows x y = no_faults rows x y
 
 mutual

@@ -1,6 +1,6 @@
 -- The first of what the parts of a list have.
 use Rattle.std.proofs.Common.{◌≡◌, ℕ, suc, zero, ◌+◌, ◌<◌, ◌≤◌, List, [], ◌∷◌, ◌++◌, take}
-use Rattle.std.proofs.Common.{length, get_or, Option, Some, None, refl, arith, Err}
+use Rattle.std.proofs.Common.{length, get_or, Option, Some, None, refl, ◌∙◌, arith, Err}
 use Rattle.std.specs.Option.{option_or}
 use Rattle.std.proofs.lemmas.List.{take_more, take_all}
 use Rattle.basic_toml_grow.specs.declared.crossed.Crossed.{Crossed}
@@ -34,8 +34,13 @@ module _ {A : Type 0} (f : A → Option ℕ) where
   pub none_in_all : (xs : List A) (i : ℕ) → length xs ≤ i → first_in (take i xs) ≡ None → first_in xs ≡ None
   none_in_all xs i passed none = rw (take_all i xs passed) at none
 
+  pub looks_at : {some all : Option ℕ} (xs : List A) (i : ℕ) (x : A) (e : Crossed) → i < length xs
+      → x ≡ get_or xs i x → first_in (take i xs) ≡ None → all ≡ first_in xs → f x ≡ some → Looks some (Err e)
+      → Looks all (Err e)
+  looks_at xs i x Memory within read none is same looks = tt
+  looks_at xs i x (At at) within read none is same looks = is ∙ found_at xs i x at within read none (same ∙ looks)
+
 -- the first of some is the first of all
-pub looks_more : (some all : Option ℕ) (e : Crossed) → ((at : ℕ) → some ≡ Some at → all ≡ Some at)
-    → Looks some (Err e) → Looks all (Err e)
-looks_more some all Memory into looks = tt
-looks_more some all (At at) into looks = into at looks
+pub looks_first : (a b : Option ℕ) (e : Crossed) → Looks a (Err e) → Looks (option_or a b) (Err e)
+looks_first a b Memory looks = tt
+looks_first a b (At at) looks = rw looks refl

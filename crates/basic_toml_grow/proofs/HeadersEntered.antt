@@ -21,7 +21,7 @@ use Rattle.basic_toml_grow.specs.Headers.{entered_at, steps_at, obstacle_at}
 use Rattle.basic_toml_grow.specs.Ways.{way_at}
 use Rattle.basic_toml_value.specs.Nesting.{nesting_limit}
 use Rattle.basic_toml_grow.specs.Simple.{with_entries}
-use Rattle.basic_toml_grow.proofs.KeysInATrie.{tries_of, stood_there, change_made, with_mapped}
+use Rattle.basic_toml_grow.proofs.KeysInATrie.{tries_of, at_entered, with_mapped}
 use Rattle.basic_toml_grow.proofs.ItemTries.{child_item_trie, table_entries_trie}
 use Rattle.basic_toml_grow.proofs.ItemsStand.{shape}
 use Rattle.basic_toml_grow.proofs.HeadersInATrie.{made, Course, course_of, same_course}
@@ -113,15 +113,15 @@ module _ {gives : Child → Type 0} {k : List ℕ} {t u : Table} {p : Place} {th
       ≡ behind_key (course_at a rows keys (l + 1) (trie_before p.is_new (child_trie there)))
   passed_course a rows keys l within =
       let o = out-Table t in
-      let stood = stood_there child_trie k o.entries pass.entries p pass.entered there pass.stands in
+      let at = at_entered child_trie k o.entries pass.entries p pass.entered there pass.stands in
       ap (course a rows (k ∷ keys) l) (table_entries_trie t)
       ∙ course_through a rows k keys l o.passed o.named o.dotted (by_keys (tries_of child_trie o.entries))
       ∙ same_course
       (ap (option_map (λ ts. made true o.named o.dotted ts))
-      (change_made child_trie k o.entries pass.entries p pass.entered there pass.stands (λ t. entered_at a rows keys t))
+      (at.1 (λ t. entered_at a rows keys t))
       ∙ mapped_twice (λ ts. made true o.named o.dotted ts)
       (λ v. by_keys (with_value (tries_of child_trie pass.entries) p.position v))
       (entered_at a rows keys (trie_before p.is_new (child_trie there))))
-      (ap (steps_at a keys) stood)
-      (behind_low l _ within ∙ ap (obstacle_at a rows keys (l + 1)) stood)
-      (ap (λ t. key k ∷ way_at a keys t) stood)
+      (ap (steps_at a keys) at.0)
+      (behind_low l _ within ∙ ap (obstacle_at a rows keys (l + 1)) at.0)
+      (ap (λ t. key k ∷ way_at a keys t) at.0)

@@ -21,7 +21,7 @@ use Rattle.basic_toml_grow.specs.Headers.{EntersItem, entered_by, steps_by, obst
 use Rattle.basic_toml_grow.specs.Headers.{obstacle_at, is_last}
 use Rattle.basic_toml_grow.specs.Obstacles.{above, keys_obstacle}
 use Rattle.basic_toml_grow.specs.Ways.{way, way_by, way_at}
-use Rattle.basic_toml_grow.proofs.LatestInATrie.{mapped_twice, among_latest, find_latest, among_next, find_next}
+use Rattle.basic_toml_grow.proofs.LatestInATrie.{mapped_twice, at_latest, at_next}
 use Rattle.basic_toml_grow.proofs.ObstaclesPassOn.{behind_low, behind_high}
 
 -- a table of which this was said, with what is below it
@@ -147,14 +147,14 @@ array_aside a rows keys l t = elim (cases_lt nesting_limit l) [
 pub enter_latest : (a : Bool) (rows : Rows) (keys : KeyTexts) (before : List Trie) (t : Trie)
     → entered_by a rows keys (array_of before t) ≡ option_map (λ u. array_of before u) (walk a rows keys t)
 enter_latest a rows keys before t =
-    rw (among_latest 0 (length before) before t (λ t. walk a rows keys t) (omega arith))
+    rw ((at_latest 0 (length before) before t (omega arith)).1 (λ t. walk a rows keys t))
     (mapped_twice (λ ts. trie (Some (standing.array (suc (length before)))) None ts)
     (λ u. by_numbers 0 (before ++ u ∷ [])) (walk a rows keys t))
 
 pub course_latest : (a : Bool) (rows : Rows) (keys : KeyTexts) (l m : ℕ) (before : List Trie) (t : Trie) → l + 1 ≡ m
     → course_by a rows keys l (array_of before t) ≡ in_latest before (course a rows keys m t)
 course_latest a rows keys l m before t next =
-    let latest = find_latest 0 (length before) before t (omega arith) in
+    let latest = (at_latest 0 (length before) before t (omega arith)).0 in
     same_course (enter_latest a rows keys before t) (rw latest refl)
     (rw (latest, array_aside a rows keys l t, next) refl) (rw latest refl)
 
@@ -165,7 +165,7 @@ pub put_next : (rows : Rows) (before : List Trie) (t : Trie)
 put_next rows before t =
     let more = before ++ t ∷ [] in
     let len : length more ≡ suc (length before) = omega (arith, length-append before (t ∷ [])) in
-    rw (len, among_next 0 (suc (length before)) more (λ t. put_table rows t) (omega arith))
+    rw (len, (at_next 0 (suc (length before)) more (omega arith)).1 (λ t. put_table rows t))
     (mapped_twice (λ ts. trie (Some (standing.array (suc (suc (length before))))) None ts)
     (λ u. by_numbers 0 (more ++ u ∷ [])) (put_table rows nothing))
 
@@ -175,7 +175,7 @@ course_next rows l before t =
     let more = before ++ t ∷ [] in
     let len : suc (length before) ≡ length more = omega (arith, length-append before (t ∷ [])) in
     same_course (put_next rows before t ∙ sym (enter_latest true rows [] more fresh)) refl
-    (rw (find_next 0 (suc (length before)) more (omega arith), find_latest 0 (length more) more fresh (omega arith))
+    (rw ((at_next 0 (suc (length before)) more (omega arith)).0, (at_latest 0 (length more) more fresh (omega arith)).0)
     refl) (ap (λ n. number n ∷ []) len)
 
 -- a value bars a header

@@ -1,6 +1,7 @@
 -- The table of an inline table: it is finished as the tree of its rows, and what keeps a row out makes rows clash.
-use Rattle.std.proofs.Common.{◌≡◌, ◌<◌, ℕ, ◌+◌, Bool, true, false, inl, inr, Some, None, Ok, Err, Box, Global}
-use Rattle.std.proofs.Common.{sym, ap, ◌∙◌, arith, rules, subst, codes, refl, Option}
+use Rattle.std.proofs.Common.{◌≡◌, ◌<◌, ℕ, ◌+◌, true, false, inl, inr, Some, None, Ok, Err, Box, Global}
+use Rattle.std.proofs.Common.{sym, ap, ◌∙◌, arith, rules, subst, codes, Option}
+use Rattle.std.proofs.lemmas.Bool.{true_from_ne_false}
 use Rattle.basic_toml_value.specs.Nesting.{nesting_limit}
 use Rattle.basic_toml_grammar.specs.Sections.{Raw, Rows}
 use Rattle.basic_toml_grammar.specs.RowClash.{rows_clash}
@@ -26,13 +27,11 @@ use Rattle.basic_toml_grow.proofs.ObstaclesPassOn.{behind_low}
 use Rattle.basic_toml_grow.proofs.Origins.OriginsSeen.{inline_seen, fresh_within}
 
 -- rows that no empty table takes clash
-refused_clash : (rows : Rows) → rows_keyed rows ≡ true → put_rows rows empty_table ≡ None → (b : Bool)
-    → rows_clash rows ≡ b → b ≡ true
-refused_clash rows keyed none true clash = refl
-refused_clash rows keyed none false clear =
+refused_clash : (rows : Rows) → rows_keyed rows ≡ true → put_rows rows empty_table ≡ None → rows_clash rows ≡ true
+refused_clash rows keyed none = true_from_ne_false _ (λ clear.
     let put = rows_put rows (Some (standings.table false false false)) keyed clear in
     let is : put_rows rows empty_table ≡ Some put.0 = put.1 in
-    absurd (cc (none, is))
+    cc (none, is))
 
 -- rows put into a table that is empty, at a level of those within the limit
 module _ (rows : Rows) (keyed : rows_keyed rows ≡ true) (start s level : ℕ) (low : level < nesting_limit) (old : Table)
@@ -42,7 +41,7 @@ module _ (rows : Rows) (keyed : rows_keyed rows ≡ true) (start s level : ℕ) 
   kept_out Memory kept = tt
   kept_out Deep kept = omega arith
   kept_out _ (inl clash) = clash
-  kept_out _ (inr none) = refused_clash rows keyed (ap (put_rows rows) (sym empty) ∙ none) (rows_clash rows) refl
+  kept_out _ (inr none) = refused_clash rows keyed (ap (put_rows rows) (sym empty) ∙ none)
 
   -- what they meet first the inline table does
   pub inline_refused : (new : Table) (clash : Clash) → TakesRows rows s (level + 1) old new (Err clash)

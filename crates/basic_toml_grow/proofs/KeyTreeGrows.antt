@@ -1,11 +1,13 @@
 -- A row is followed by a tree, one key after another.
-use Rattle.std.proofs.Common.{◌≡◌, ◌⊎◌, inl, inr, ℕ, false, List, [], ◌∷◌, ◌++◌, refl, sym, ap, ◌∙◌, map, rules}
-use Rattle.std.proofs.Common.{Option, Some, None, option_map, Result, Ok, Err}
+use Rattle.std.proofs.Common.{◌≡◌, inl, inr, ℕ, false, List, [], ◌∷◌, ◌++◌, refl, sym, ap, ◌∙◌, map, rules}
+use Rattle.std.proofs.Common.{Option, Some, None, option_map, Result, Ok, Err, subst}
 use Rattle.std.specs.List.{slice_get}
 use Rattle.std.specs.Option.{option_or}
 use Rattle.std.specs.Str.{bytes_eq}
+use Rattle.std.proofs.Math.Path.{fun_ext}
 use Rattle.std.proofs.lemmas.Bool.{cases_Bool}
 use Rattle.std.proofs.lemmas.Slice.Eq.{bytes_eq-Decides}
+use Rattle.basic_toml_index.proofs.DistinctKeys.{bytes_eq-same}
 use Rattle.basic_toml_value.specs.Pairs.{value_at}
 use Rattle.basic_toml_grammar.specs.Sections.{KeyTexts}
 use Rattle.basic_toml_grow.specs.declared.crossed.KeyTree.{KeyTree, out-KeyTree, roll-KeyTree, the_lemmas}
@@ -14,7 +16,8 @@ use Rattle.basic_toml_grow.specs.declared.crossed.Crossed.{Crossed}
 use Rattle.basic_toml_grow.specs.declared.crossed.Crossed.TheVariants.{Memory, At}
 use Rattle.basic_toml_grow.specs.KeyTree.{Ends, ends_below, ends_from, ends_of, no_key_tree, value_on, Follows}
 use Rattle.basic_toml_grow.specs.KeyTree.{FollowsTo}
-use Rattle.basic_toml_grow.proofs.ValuesOnTheWay.{same_on}
+use Rattle.basic_toml_grow.specs.Crossed.{and_end}
+use Rattle.basic_toml_grow.proofs.ValuesOnTheWay.{follows_so, or_nothing, row_ends, same_on}
 use Rattle.basic_toml_value.specs.Growth.{with_value, values_of, FindsOrAdds}
 use Rattle.basic_toml_value.specs.declared.pairs.growth.Place.{Place}
 use Rattle.basic_toml_value.proofs.KeysChanged.{value_at-map, made_first, stood_or_fresh, put_at, kept_elsewhere}
@@ -76,32 +79,16 @@ module _ (before after there gone : Ends) (k : List ℕ) (at_none : before [] �
     (others : (l : List ℕ) (p : KeyTexts) → bytes_eq l k ≡ false → after (l ∷ p) ≡ before (l ∷ p)) where
   pub follows_deeper : (path : KeyTexts) (start : ℕ) → Follows there gone path start
       → Follows before after (k ∷ path) start
-  follows_deeper path start deeper = record {
-    free = goes_deeper before there k at_none was path ∙ deeper.free;
-    kept = kept;
-    stands = (deeper.stands.0, is path ∙ deeper.stands.1);
-    told = told;
-  }
+  follows_deeper path start deeper =
+      subst (λ (e : Ends). Follows before e (k ∷ path) start) (sym (fun_ext ends))
+      (row_ends before (k ∷ path) start (goes_deeper before there k at_none was path ∙ deeper.free))
     where
-      kept : (p : KeyTexts) (s : ℕ) → before p ≡ Some s → after p ≡ Some s
-      kept [] s at = absurd (cc)
-      kept (l ∷ p) s at = elim (cases_Bool (bytes_eq l k)) [
-        | inl same ↦
-            let key : l ≡ k = (bytes_eq-Decides l k).0 same in
-            rw key (is p ∙ deeper.kept p s (sym (was p) ∙ rw key at at))
-        | inr other ↦ others l p other ∙ at
-      ]
-
-      told : (p : KeyTexts) (s : ℕ) → after p ≡ Some s → (before p ≡ Some s) ⊎ ((p ≡ k ∷ path) × (s ≡ start))
-      told [] s at = absurd (cc)
-      told (l ∷ p) s at = elim (cases_Bool (bytes_eq l k)) [
-        | inl same ↦
-            let key : l ≡ k = (bytes_eq-Decides l k).0 same in
-            elim (deeper.told p s (sym (is p) ∙ rw key at at)) [
-              | inl there ↦ inl (rw key (was p ∙ there))
-              | inr own ↦ inr (rw (key, own.0) refl, own.1)
-            ]
-        | inr other ↦ inl (sym (others l p other) ∙ at)
+      ends : (p : KeyTexts) → after p ≡ and_end before (k ∷ path) start p
+      ends [] = rw (still_none, at_none) refl
+      ends (l ∷ p) = elim (cases_Bool (bytes_eq l k)) [
+        | inl same ↦ rw ((bytes_eq-Decides l k).0 same, is p, was p, bytes_eq-same k)
+            (follows_so there path start gone deeper p)
+        | inr other ↦ rw (others l p other, other) (sym (or_nothing (before (l ∷ p))))
       ]
 
 -- a tree where a key is entered

@@ -1,7 +1,7 @@
 -- What a row meets tells what stops it, key by key.
-use Rattle.std.proofs.Common.{rules, ◌≡◌, ℕ, ◌+◌, Bool, true, false, ◌||◌, List, [], ◌∷◌, ◌++◌, refl, sym, ap, ◌∙◌}
-use Rattle.std.proofs.Common.{Option, Some, None, Err, length, take, map, Box, Global, arith, cond}
-use Rattle.std.specs.Option.{option_or}
+use Rattle.std.proofs.Common.{rules, ◌≡◌, inl, inr, ℕ, ◌+◌, Bool, true, false, ◌||◌, List, [], ◌∷◌, ◌++◌, refl, sym}
+use Rattle.std.proofs.Common.{ap, ◌∙◌, Option, Some, None, Err, length, take, map, Box, Global, arith}
+use Rattle.std.proofs.lemmas.Bool.{cases_Bool}
 use Rattle.std.proofs.lemmas.List.{append-nil, append_assoc, length-append, length-map}
 use Rattle.std.specs.List.{slice_get}
 use Rattle.basic_toml_value.specs.Data.{Data}
@@ -30,7 +30,7 @@ use Rattle.basic_toml_value.specs.Growth.{values_of, FindsOrAdds}
 use Rattle.basic_toml_value.specs.declared.pairs.growth.Place.{Place}
 use Rattle.basic_toml_grow.specs.RowStops.{key_at, TellsStop, TellsLast, TellsRow, TellsExtended}
 use Rattle.basic_toml_grow.specs.Takes.{ExtendsBy}
-use Rattle.basic_toml_grow.proofs.KeysInATrie.{stood_there}
+use Rattle.basic_toml_grow.proofs.KeysInATrie.{at_entered}
 use Rattle.basic_toml_grow.proofs.ItemTries.{child_item_trie, table_entries_trie}
 use Rattle.basic_toml_grow.proofs.ItemsStand.{shape}
 use Rattle.basic_toml_grow.proofs.TablesOpened.{table_item_trie}
@@ -110,7 +110,7 @@ module _ {gives : Child → Type 0} (before : Table) (k : List ℕ) (new : List 
 
   below_there : below (steps.key k) (table_trie before) ≡ stood
   below_there = ap (below (steps.key k)) (table_entries_trie before)
-      ∙ stood_there child_trie k (out-Table before).entries new p e there stands
+      ∙ (at_entered child_trie k (out-Table before).entries new p e there stands).0
 
   -- a change at the key that stops
   step_stops : (g : Trie → Outcome Trie) (x : Stop) → g stood ≡ stops x
@@ -151,15 +151,10 @@ extended_on ks last d t u met is told = λ before first offset.
 
 stopped_here : (before : KeyTexts) (first : Key) (t : Trie) → mark_here dotted t ≡ None
     → try_here dotted (λ m. at_row before first) t ≡ stops (at_row before first)
-stopped_here before first (trie s v ts) none = go (standings.fits dotted s) none
-  where
-    go : (b : Bool)
-        → cond b (Some (trie (Some (standings.taken dotted s)) (option_or v (standings.value_of dotted)) ts))
-        None ≡ None
-        → cond b (goes_on (trie (Some (standings.taken dotted s)) (option_or v (standings.value_of dotted)) ts))
-        (stops (at_row before first)) ≡ stops (at_row before first)
-    go true none = absurd (cc)
-    go false none = refl
+stopped_here before first (trie s v ts) none = elim (cases_Bool (standings.fits dotted s)) [
+  | inl fits ↦ let never = rw fits at none in absurd (cc)
+  | inr other ↦ rw other refl
+]
 
 pub extended_refused : {now : Child} (parents : List code_keys.Key) (last : List ℕ) (child there : Child)
     → mark_here dotted (child_trie there) ≡ None

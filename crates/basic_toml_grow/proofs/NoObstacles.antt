@@ -58,17 +58,14 @@ rows_aside l no_rows s u v w ts keyed = refl
 rows_aside l (row [] at v rows) s u a w ts keyed = absurd (cc)
 rows_aside l (row (k ∷ ks) at v rows) s u a w ts keyed =
     let o = row_aside k ks (finished v) s a ts in
-    rw (o.1 s a, o.1 u w) (go o.0 (λ ts. rows_aside l rows s u a w ts keyed))
+    let last = l + length (k ∷ ks) - 1 in
+    rw (o.1 s a, o.1 u w) (ap (λ (b : Option Obstacle). option_or (above last)
+    (option_or (option_map (held_obstacle (k ∷ ks)) (value_obstacle last v)) b))
+    (go o.0 (λ ts. rows_aside l rows s u a w ts keyed)))
   where
-    last : ℕ
-    last = l + length (k ∷ ks) - 1
-
     go : (o : Outcome Tries)
         → ((ts : Tries) → rows_obstacle l rows (trie s a ts) ≡ rows_obstacle l rows (trie u w ts))
-        → option_or (above last) (option_or (option_map (held_obstacle (k ∷ ks)) (value_obstacle last v))
-        (and_behind (outcome_map (λ ts. trie s a ts) o) (λ t. rows_obstacle l rows t)))
-        ≡ option_or (above last) (option_or (option_map (held_obstacle (k ∷ ks)) (value_obstacle last v))
-        (and_behind (outcome_map (λ ts. trie u w ts) o) (λ t. rows_obstacle l rows t)))
+        → and_behind (outcome_map (λ ts. trie s a ts) o) (λ t. rows_obstacle l rows t)
+        ≡ and_behind (outcome_map (λ ts. trie u w ts) o) (λ t. rows_obstacle l rows t)
     go (stops x) more = refl
-    go (goes_on ts) more = ap (λ (b : Option Obstacle). option_or (above last)
-        (option_or (option_map (held_obstacle (k ∷ ks)) (value_obstacle last v)) b)) (more ts)
+    go (goes_on ts) more = more ts

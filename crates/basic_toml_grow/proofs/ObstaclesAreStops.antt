@@ -1,9 +1,9 @@
 -- What a section meets first tells what it comes to: a stop is what stops it without levels, a level is met only where
 -- one is above the limit, and where nothing is met, it goes on within the limit.
-use Rattle.std.proofs.Common.{◌≡◌, ◌≤◌, ◌<◌, ◌+◌, ◌-◌, ℕ, zero, suc, Bool, true, false, cond, List, [], ◌∷◌, Option}
+use Rattle.std.proofs.Common.{◌≡◌, ◌≤◌, ◌<◌, ◌+◌, ◌-◌, ℕ, zero, suc, Bool, true, false, List, [], ◌∷◌, Option}
 use Rattle.std.proofs.Common.{Some, None, refl, ap, subst, inl, inr, arith, max, length, option_map}
 use Rattle.std.specs.Option.{option_or}
-use Rattle.std.proofs.lemmas.Bool.{cases_lt}
+use Rattle.std.proofs.lemmas.Bool.{cases_Bool, cases_lt}
 use Rattle.basic_toml_value.specs.Nesting.{nesting_limit}
 use Rattle.basic_toml_grammar.specs.Sections.{Key, KeyTexts, Raw, Elements, no_elements, element, Rows, no_rows, row}
 use Rattle.basic_toml_grammar.specs.Steps.{Step, key, number, step_eq}
@@ -70,13 +70,11 @@ behind_tells (goes_on t) f g l more = more t
 among_tells : (s : Step) (f : Trie → Outcome Trie) (ts : Tries) (m : Option Obstacle) (l : ℕ)
     → Tells m (f (find s ts)) l → Tells m (try_among s f ts) l
 among_tells s f no_tries m l tells = map_tells (λ t. by s t no_tries) m (f nothing) l tells
-among_tells s f (by r t ts) m l tells = go (step_eq r s) (among_tells s f ts m l) tells
-  where
-    go : (b : Bool) → (Tells m (f (find s ts)) l → Tells m (try_among s f ts) l)
-        → Tells m (f (cond b t (find s ts))) l
-        → Tells m (cond b (outcome_map (λ t. by r t ts) (f t)) (outcome_map (λ ts. by r t ts) (try_among s f ts))) l
-    go true further tells = map_tells (λ t. by r t ts) m (f t) l tells
-    go false further tells = map_tells (λ ts. by r t ts) m (try_among s f ts) l (further tells)
+among_tells s f (by r t ts) m l tells = elim (cases_Bool (step_eq r s)) [
+  | inl same ↦ rw same (map_tells (λ t. by r t ts) m (f t) l (rw same at tells))
+  | inr other ↦ rw other (map_tells (λ ts. by r t ts) m (try_among s f ts) l
+      (among_tells s f ts m l (rw other at tells)))
+]
 
 -- A mark and a step: the mark changes nothing below, and its level is no higher than that of what is behind it.
 further : (k : MarkKind) (name : Option Standing → Stop) (s : Step) (l n : ℕ) (t : Trie) (f : Trie → Option Obstacle)
@@ -87,16 +85,12 @@ further k name s l n (trie st v ts) f g within tells =
     let o = try_here k name (trie st v ts) in
     subst (λ (n : ℕ). Tells (option_or (above l) (and_behind o (λ u. f (below s u))))
     (and_on o (λ u. try_step s g u)) n) (omega arith)
-    (level_tells l n (and_behind o (λ u. f (below s u))) (and_on o (λ u. try_step s g u)) (go (fits k st)))
-  where
-    marked : Bool → Outcome Trie
-    marked b = cond b (goes_on (trie (Some (taken k st)) (option_or v (value_of k)) ts)) (stops (name st))
-
-    go : (b : Bool) → Tells (and_behind (marked b) (λ u. f (below s u))) (and_on (marked b) (λ u. try_step s g u)) n
-    go true =
-        map_tells (λ ts. trie (Some (taken k st)) (option_or v (value_of k)) ts) (f (find s ts)) (try_among s g ts) n
-        (among_tells s g ts (f (find s ts)) n tells)
-    go false = refl
+    (level_tells l n (and_behind o (λ u. f (below s u))) (and_on o (λ u. try_step s g u))
+    (elim (cases_Bool (fits k st)) [
+      | inl is ↦ rw is (map_tells (λ ts. trie (Some (taken k st)) (option_or v (value_of k)) ts) (f (find s ts))
+          (try_among s g ts) n (among_tells s g ts (f (find s ts)) n tells))
+      | inr other ↦ rw other refl
+    ]))
 
 mutual
   rows_tell : (l : ℕ) (rows : Rows) (t : Trie)

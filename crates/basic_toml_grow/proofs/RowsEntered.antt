@@ -20,7 +20,7 @@ use Rattle.basic_toml_value.specs.declared.pairs.growth.Place.{Place}
 use Rattle.basic_toml_grow.specs.Origins.{beyond, child_origins, table_within, with_more}
 use Rattle.basic_toml_grow.specs.Rows.{Enters}
 use Rattle.basic_toml_grow.specs.Takes.{TakesRow}
-use Rattle.basic_toml_grow.proofs.KeysInATrie.{tries_of, change_made, with_mapped, with_same}
+use Rattle.basic_toml_grow.proofs.KeysInATrie.{tries_of, at_entered, with_mapped, with_same}
 use Rattle.basic_toml_grow.proofs.ItemTries.{table_entries_trie, entries_with, with_entries_trie}
 use Rattle.basic_toml_grow.proofs.LatestInATrie.{mapped_twice}
 use Rattle.basic_toml_grow.proofs.Origins.RowsPlaceOrigins.{origins_added}
@@ -59,7 +59,7 @@ module _ {gives : Child → Type 0} (before : Table) (k : List ℕ) (new : List 
   step_made g =
       at_key
       ∙ ap (with_tries (standing (table_trie before)) None)
-      (change_made child_trie k (out-Table before).entries new p e there stands g)
+      ((at_entered child_trie k (out-Table before).entries new p e there stands).1 g)
       ∙ mapped_twice (λ ts. trie (standing (table_trie before)) None ts)
       (λ u. by_keys (with_value (tries_of child_trie new) p.position u)) (g (trie_before p.is_new (child_trie there)))
     where

@@ -1,7 +1,8 @@
 -- Where no row has more keys than the one before it, none goes on from a value.
-use Rattle.std.proofs.Common.{◌≡◌, ◌≤◌, ◌<◌, ℕ, ◌+◌, Bool, true, false, List, [], ◌∷◌, ◌++◌, refl, sym, ap, ◌∙◌}
+use Rattle.std.proofs.Common.{◌≡◌, ◌≤◌, ◌<◌, ℕ, ◌+◌, false, List, [], ◌∷◌, ◌++◌, refl, sym, ap, ◌∙◌}
 use Rattle.std.proofs.Common.{length, drop, take, get_or, map, arith}
 use Rattle.std.specs.Prelude.{⊤}
+use Rattle.std.proofs.lemmas.Bool.{false_from_ne_true}
 use Rattle.std.proofs.lemmas.List.{drop_more, length-map, length-append, length-take, length-drop}
 use Rattle.basic_toml_grammar.specs.Sections.{Key, KeyTexts, texts}
 use Rattle.basic_toml_grammar.specs.Steps.{properly_begins, steps_of}
@@ -20,20 +21,9 @@ Shrink most (l ∷ ls) = (l.parents ≤ most) × Shrink l.parents ls
 -- a path begins properly only a longer one
 too_short : (p : KeyTexts) (ks : List Key) → length ks ≤ length p
     → properly_begins (steps_of p) (steps_of (texts ks)) ≡ false
-too_short p ks short = go (properly_begins (steps_of p) (steps_of (texts ks))) refl
-  where
-    go : (b : Bool) → properly_begins (steps_of p) (steps_of (texts ks)) ≡ b → b ≡ false
-    go false begins = refl
-    go true begins =
-        let left : KeysLeft p (texts ks) = keys_left p (texts ks) begins in
-        let long : length (texts ks) ≡ length (p ++ left.0 ∷ left.1) = ap length left.2 in
-        absurd (omega (
-          arith,
-          long,
-          short,
-          length-map ks (λ (k : Key). k.text),
-          length-append p (left.0 ∷ left.1),
-        ))
+too_short p ks short = false_from_ne_true _ (λ begins.
+    let left : KeysLeft p (texts ks) = keys_left p (texts ks) begins in
+    omega (arith, ap length left.2, short, length-map ks (λ (k : Key). k.text), length-append p (left.0 ∷ left.1)))
 
 none_longer : (at most : ℕ) (p : KeyTexts) (parents : List Key) (ls : List Lined) → Shrink most ls
     → length (take most parents) + 1 ≤ length p → extending_faults at (steps_of p) (rows_from parents ls) ≡ []

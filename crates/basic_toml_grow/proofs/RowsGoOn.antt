@@ -1,14 +1,15 @@
 -- The faults of rows that go on from earlier rows' values, row by row.
-use Rattle.std.proofs.Common.{◌≡◌, inl, inr, ℕ, true, false, not, List, [], ◌∷◌, ◌++◌, refl, sym, ap, ◌∙◌}
+use Rattle.std.proofs.Common.{◌≡◌, ◌⊎◌, inl, inr, ℕ, true, false, List, [], ◌∷◌, ◌++◌, refl, sym, ap, ◌∙◌}
 use Rattle.std.proofs.Common.{Some, None, Bool, cond, subst, arith}
-use Rattle.std.specs.Prelude.{◌&&◌, Contains}
+use Rattle.std.specs.Prelude.{Contains}
 use Rattle.std.specs.Str.{bytes_eq}
+use Rattle.std.proofs.lemmas.Bool.{cases_Bool, false≢true}
 use Rattle.std.proofs.lemmas.Slice.Eq.{bytes_eq-Decides}
 use Rattle.std.proofs.lemmas.List.Elements.{Contains-append_left, Contains-append_right, Contains-append_cases}
 use Rattle.std.proofs.lemmas.List.Elements.{Contains-get_or}
 use Rattle.basic_toml_index.proofs.DistinctKeys.{bytes_eq-same}
 use Rattle.basic_toml_grammar.specs.Sections.{Key, KeyTexts, texts, Raw, Rows, no_rows, row}
-use Rattle.basic_toml_grammar.specs.Steps.{Path, begins, properly_begins, steps_of}
+use Rattle.basic_toml_grammar.specs.Steps.{Path, properly_begins, steps_of}
 use Rattle.basic_toml_grammar.specs.Faults.{Fault}
 use Rattle.basic_toml_grammar.specs.NamedClash.{dotted_fault, extending_faults, dotted_faults, dotted_faults_in}
 use Rattle.basic_toml_grow.specs.KeyTree.{Ends, Follows, value_on}
@@ -24,44 +25,35 @@ abbrev pub value_faults : Rows → List Fault
 value_faults no_rows = []
 value_faults (row keys at value rows) = dotted_faults_in value ++ value_faults rows
 
-none_left : (a b : List Fault) → a ++ b ≡ [] → a ≡ []
-none_left [] b none = refl
-none_left (f ∷ a) b none = absurd (cc)
-
-none_right : (a b : List Fault) → a ++ b ≡ [] → b ≡ []
-none_right [] b none = none
-none_right (f ∷ a) b none = absurd (cc)
+none_both : (a b : List Fault) → a ++ b ≡ [] → (a ≡ []) × (b ≡ [])
+none_both [] b none = (refl, none)
+none_both (f ∷ a) b none = absurd (cc)
 
 pub no_faults : (rows : Rows) → faults_between rows ≡ [] → value_faults rows ≡ [] → dotted_faults rows ≡ []
 no_faults no_rows own inside = refl
 no_faults (row keys at value rows) own inside =
-    rw (
-      none_left (extending_faults at (steps_of (texts keys)) rows) (faults_between rows) own,
-      none_left (dotted_faults_in value) (value_faults rows) inside,
-    )
-    (no_faults rows (none_right (extending_faults at (steps_of (texts keys)) rows) (faults_between rows) own)
-    (none_right (dotted_faults_in value) (value_faults rows) inside))
+    let here = none_both (extending_faults at (steps_of (texts keys)) rows) (faults_between rows) own in
+    let within = none_both (dotted_faults_in value) (value_faults rows) inside in
+    rw (here.0, within.0) (no_faults rows here.1 within.1)
 
-pub own_is_fault : (rows : Rows) (f : Fault) → Contains (faults_between rows) f → Contains (dotted_faults rows) f
-own_is_fault no_rows f there = there
-own_is_fault (row keys at value rows) f there =
+-- each of these is one of all
+pub is_fault : (rows : Rows) (f : Fault) → Contains (faults_between rows) f ⊎ Contains (value_faults rows) f
+    → Contains (dotted_faults rows) f
+is_fault no_rows f (inl there) = there
+is_fault no_rows f (inr there) = there
+is_fault (row keys at value rows) f there =
     let own = extending_faults at (steps_of (texts keys)) rows in
-    let front = own ++ dotted_faults_in value in
-    elim (Contains-append_cases own (faults_between rows) f there) [
-      | inl here ↦ Contains-append_left front (dotted_faults rows) f
-          (Contains-append_left own (dotted_faults_in value) f here)
-      | inr later ↦ Contains-append_right front (dotted_faults rows) f (own_is_fault rows f later)
-    ]
-
-pub value_is_fault : (rows : Rows) (f : Fault) → Contains (value_faults rows) f → Contains (dotted_faults rows) f
-value_is_fault no_rows f there = there
-value_is_fault (row keys at value rows) f there =
-    let own = extending_faults at (steps_of (texts keys)) rows in
-    let front = own ++ dotted_faults_in value in
-    elim (Contains-append_cases (dotted_faults_in value) (value_faults rows) f there) [
-      | inl here ↦ Contains-append_left front (dotted_faults rows) f
-          (Contains-append_right own (dotted_faults_in value) f here)
-      | inr later ↦ Contains-append_right front (dotted_faults rows) f (value_is_fault rows f later)
+    let inside = dotted_faults_in value in
+    let front = own ++ inside in
+    elim there [
+      | inl between ↦ elim (Contains-append_cases own (faults_between rows) f between) [
+        | inl here ↦ Contains-append_left front (dotted_faults rows) f (Contains-append_left own inside f here)
+        | inr later ↦ Contains-append_right front (dotted_faults rows) f (is_fault rows f (inl later))
+      ]
+      | inr within ↦ elim (Contains-append_cases inside (value_faults rows) f within) [
+        | inl here ↦ Contains-append_left front (dotted_faults rows) f (Contains-append_right own inside f here)
+        | inr later ↦ Contains-append_right front (dotted_faults rows) f (is_fault rows f (inr later))
+      ]
     ]
 
 -- a path properly begins another exactly where keys are left
@@ -77,29 +69,22 @@ pub keys_left : (p path : KeyTexts) → properly_begins (steps_of p) (steps_of p
 keys_left [] [] properly = absurd (cc)
 keys_left [] (k ∷ path) properly = (k, path, refl)
 keys_left (l ∷ p) [] properly = absurd (cc)
-keys_left (l ∷ p) (k ∷ path) properly = go (bytes_eq l k) refl properly (keys_left p path)
-  where
-    go : (b : Bool) → bytes_eq l k ≡ b
-        → ((b && begins (steps_of p) (steps_of path)) && not (bytes_eq k l && begins (steps_of path) (steps_of p)))
-        ≡ true → (properly_begins (steps_of p) (steps_of path) ≡ true → KeysLeft p path) → KeysLeft (l ∷ p) (k ∷ path)
-    go true same left deeper =
-        let key : l ≡ k = (bytes_eq-Decides l k).0 same in
-        let back : bytes_eq k l ≡ true = (bytes_eq-Decides k l).1 (sym key) in
-        let more : KeysLeft p path = deeper (rw back at left) in
-        (more.0, more.1, ap (λ m. m ∷ path) (sym key) ∙ ap (λ q. l ∷ q) more.2)
-    go false other left deeper = absurd (cc)
+keys_left (l ∷ p) (k ∷ path) properly = elim (cases_Bool (bytes_eq l k)) [
+  | inl same ↦
+      let key : l ≡ k = (bytes_eq-Decides l k).0 same in
+      let back : bytes_eq k l ≡ true = (bytes_eq-Decides k l).1 (sym key) in
+      let more : KeysLeft p path = keys_left p path (rw (same, back) at properly) in
+      (more.0, more.1, ap (λ m. m ∷ path) (sym key) ∙ ap (λ q. l ∷ q) more.2)
+  | inr other ↦ absurd (false≢true (rw other at properly))
+]
 
 -- whether rows go on from a value does not depend on where it begins
 extending_none : (s t : ℕ) (p : Path) (rows : Rows) → extending_faults s p rows ≡ [] → extending_faults t p rows ≡ []
 extending_none s t p no_rows none = refl
-extending_none s t p (row keys at value rows) none =
-    go (properly_begins p (steps_of (texts keys))) none (extending_none s t p rows)
-  where
-    go : (b : Bool) → cond b (dotted_fault s ∷ extending_faults s p rows) (extending_faults s p rows) ≡ []
-        → (extending_faults s p rows ≡ [] → extending_faults t p rows ≡ [])
-        → cond b (dotted_fault t ∷ extending_faults t p rows) (extending_faults t p rows) ≡ []
-    go true none rest = absurd (cc)
-    go false none rest = rest none
+extending_none s t p (row keys at value rows) none = elim (cases_Bool (properly_begins p (steps_of (texts keys)))) [
+  | inl begins ↦ let never = rw begins at none in absurd (cc)
+  | inr other ↦ rw other (extending_none s t p rows (rw other at none))
+]
 
 -- Some of all rows have been followed, and these are left. Each fault of a followed row before them is one of all, as
 -- is each of their own, and where there are none, all have none.
@@ -137,14 +122,15 @@ module _ (all left : Rows) (ends after : Ends) (keys : List Key) (at : ℕ) (val
     none = none;
   }
     where
-      cleared : (p : KeyTexts) (s : ℕ) (b : Bool) → properly_begins (steps_of p) (steps_of path) ≡ b
-          → ends p ≡ Some s → extending_faults s (steps_of p) left ≡ []
-          → cond b (dotted_fault s ∷ extending_faults s (steps_of p) left) (extending_faults s (steps_of p) left) ≡ []
-      cleared p s true properly there clear =
-          let more = keys_left p path properly in
-          let never : ends p ≡ None = none_on ends path p more.1 more.0 follows.free more.2 in
-          absurd (cc)
-      cleared p s false properly there clear = clear
+      cleared : (p : KeyTexts) (s : ℕ) → ends p ≡ Some s → extending_faults s (steps_of p) left ≡ []
+          → extending_faults s (steps_of p) (row keys at value left) ≡ []
+      cleared p s there clear = elim (cases_Bool (properly_begins (steps_of p) (steps_of path))) [
+        | inl properly ↦
+            let more = keys_left p path properly in
+            let never : ends p ≡ None = none_on ends path p more.1 more.0 follows.free more.2 in
+            absurd (cc)
+        | inr other ↦ rw other clear
+      ]
 
       none : ((p : KeyTexts) (s : ℕ) → after p ≡ Some s → extending_faults s (steps_of p) left ≡ [])
           → faults_between left ≡ [] → faults_between all ≡ []
@@ -152,8 +138,7 @@ module _ (all left : Rows) (ends after : Ends) (keys : List Key) (at : ℕ) (val
           let here : front ≡ [] =
           extending_none follows.stands.0 at (steps_of path) left (clear path follows.stands.0 follows.stands.1) in
           reached.none
-          (λ p s there. cleared p s (properly_begins (steps_of p) (steps_of path)) refl there
-          (clear p s (follows.kept p s there)))
+          (λ p s there. cleared p s there (clear p s (follows.kept p s there)))
           (rw (here, empty) refl)
 
   -- the next row goes on from a value

@@ -6,7 +6,6 @@ use Rattle.std.proofs.Math.Bool.{or-false}
 use Rattle.std.proofs.Math.Path.{fun_ext}
 use Rattle.std.proofs.lemmas.Bool.{and_parts, or_left, or_parts, or_right}
 use Rattle.basic_toml_read.specs.declared.section.Key as keys
-use Rattle.basic_toml_read.specs.declared.section.Row as lines
 use Rattle.basic_toml_read.specs.declared.section.Rows as tables
 use Rattle.basic_toml_read.specs.SectionView.{rows_seen, rows_view}
 use Rattle.basic_toml_value.specs.Nesting.{nesting_limit}
@@ -20,7 +19,6 @@ use Rattle.basic_toml_grammar.specs.Stops.{Outcome, goes_on, stops}
 use Rattle.basic_toml_grammar.specs.Trie.{Trie, put_row, put_rows}
 use Rattle.basic_toml_grammar.specs.TrieStops.{try_put_row}
 use Rattle.basic_toml_grammar.proofs.Tries.RowsThatOverlapAreRefused.{values_clash, put_apart}
-use Rattle.basic_toml_plain.proofs.WhatIsLeft.{nothing_left}
 use Rattle.basic_toml_grow.specs.Clash.{Obstacle}
 use Rattle.basic_toml_grow.specs.declared.clash.Clash.{Clash}
 use Rattle.basic_toml_grow.specs.declared.clash.Clash.TheVariants.{Memory, Deep}
@@ -98,12 +96,7 @@ none_taken s level t = record {
   origins = let w = table_within t in sym (ap (within w.made w.section) (else_none w.below));
 }
 
-pub none_seen : (rows : tables.Rows) → length (tables.out-Rows rows).rows.items ≡ 0 → rows_view rows ≡ no_rows
-none_seen rows none =
-    ap (λ (rs : List lines.Row). rows_seen (tables.out-Rows rows).parents.items rs)
-    (nothing_left (tables.out-Rows rows).rows.items none)
-
--- and rows without parents are seen so
+-- rows without parents
 pub no_parents_seen : (rows : tables.Rows) → (tables.out-Rows rows).parents.items ≡ []
     → rows_view rows ≡ rows_seen [] (tables.out-Rows rows).rows.items
 no_parents_seen rows none = ap (λ (ks : List keys.Key). rows_seen ks (tables.out-Rows rows).rows.items) none

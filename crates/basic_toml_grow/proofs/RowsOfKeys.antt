@@ -4,7 +4,6 @@ use Rattle.std.specs.Option.{option_or}
 use Rattle.basic_toml_read.specs.declared.section.Element.{Element}
 use Rattle.basic_toml_read.specs.declared.section.Key as keys
 use Rattle.basic_toml_read.specs.declared.section.Row.{Row}
-use Rattle.basic_toml_read.specs.declared.section.Rows.{out-Rows}
 use Rattle.basic_toml_read.specs.declared.section.Section as code
 use Rattle.basic_toml_grammar.specs.Sections.{Key, Section}
 use Rattle.basic_toml_read.specs.SectionView.{Lined, Placed, key_of, rows_from, elements_from}
@@ -45,9 +44,3 @@ element_values es = values_of_elements (map placed_of es) ∙ first_of_map (λ e
 pub section_values : (ss : List code.Section)
     → first_crossed (map section_of ss) ≡ first_in (λ s. crossed_in (section_of s).rows) ss
 section_values ss = first_of_sections (map section_of ss) ∙ first_of_map (λ s. crossed_in s.rows) section_of ss
-
--- the rows of a section, as they are handed over
-pub section_rows : (s : code.Section) (parents : List keys.Key) (rs : List Row)
-    → parents ≡ (out-Rows s.rows).parents.items → rs ≡ (out-Rows s.rows).rows.items
-    → crossed_in (section_of s).rows ≡ crossed_in (rows_seen parents rs)
-section_rows s parents rs same_parents same_rows = rw (same_parents, same_rows) refl

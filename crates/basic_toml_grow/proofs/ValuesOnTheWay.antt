@@ -4,7 +4,7 @@ use Rattle.std.proofs.Common.{Option, Some, None}
 use Rattle.std.specs.Prelude.{if◌then◌else◌}
 use Rattle.std.specs.Option.{option_or}
 use Rattle.std.specs.Str.{bytes_eq}
-use Rattle.std.proofs.lemmas.Bool.{and_parts, false≢true}
+use Rattle.std.proofs.lemmas.Bool.{and_parts}
 use Rattle.std.proofs.lemmas.Slice.Eq.{bytes_eq-Decides}
 use Rattle.basic_toml_index.proofs.DistinctKeys.{bytes_eq-same}
 use Rattle.basic_toml_grammar.specs.Sections.{KeyTexts}
@@ -19,6 +19,20 @@ pub none_right : {A : Type 0} (a b : Option A) → option_or a b ≡ None → b 
 none_right None b e = e
 none_right (Some x) b e = cc
 
+pub some_or_none : {A : Type 0} (a : Option A) → ((x : A) × (a ≡ Some x)) ⊎ (a ≡ None)
+some_or_none None = inr refl
+some_or_none (Some x) = inl (x, refl)
+
+pub or_nothing : {A : Type 0} (a : Option A) → option_or a None ≡ a
+or_nothing None = refl
+or_nothing (Some x) = refl
+
+same_if_some : {A : Type 0} (a b : Option A) → ((x : A) → a ≡ Some x → b ≡ Some x)
+    → ((x : A) → b ≡ Some x → a ≡ Some x) → a ≡ b
+same_if_some (Some x) b to from = sym (to x refl)
+same_if_some None None to from = refl
+same_if_some None (Some x) to from = from x refl
+
 -- a path goes on from the value that begins there
 pub record GoesOnFrom (before : Ends) (path : KeyTexts) (at : ℕ) : Type 0 where
   pub front : KeyTexts
@@ -29,17 +43,12 @@ pub record GoesOnFrom (before : Ends) (path : KeyTexts) (at : ℕ) : Type 0 wher
 
 pub goes_on_from : (ends : Ends) (path : KeyTexts) (at : ℕ) → value_on ends path ≡ Some at → GoesOnFrom ends path at
 goes_on_from ends [] at e = cc
-goes_on_from ends (k ∷ path) at e = go (ends []) refl e (goes_on_from (λ p. ends (k ∷ p)) path at)
-  where
-    go : (o : Option ℕ) → ends [] ≡ o → option_or o (value_on (λ p. ends (k ∷ p)) path) ≡ Some at
-        → (value_on (λ p. ends (k ∷ p)) path ≡ Some at → GoesOnFrom (λ p. ends (k ∷ p)) path at)
-        → GoesOnFrom ends (k ∷ path) at
-    go (Some s) here e further =
-        let same : s ≡ at = cc in
-        record { front = []; k = k; rest = path; parts = refl; there = here ∙ ap (λ n. Some n) same }
-    go None here e further =
-        let x = further e in
-        record { front = k ∷ x.front; k = x.k; rest = x.rest; parts = ap (λ p. k ∷ p) x.parts; there = x.there }
+goes_on_from ends (k ∷ path) at e = elim (some_or_none (ends [])) [
+  | inl here ↦ record { front = []; k = k; rest = path; parts = refl; there = here.1 ∙ (rw here.1 at e) }
+  | inr none ↦
+      let x = goes_on_from (λ p. ends (k ∷ p)) path at (rw none at e) in
+      record { front = k ∷ x.front; k = x.k; rest = x.rest; parts = ap (λ p. k ∷ p) x.parts; there = x.there }
+]
 
 pub none_on : (ends : Ends) (path front rest : KeyTexts) (k : List ℕ) → value_on ends path ≡ None
     → path ≡ front ++ k ∷ rest → ends front ≡ None
@@ -95,25 +104,18 @@ module _ (ends : Ends) (path : KeyTexts) (at : ℕ) where
       told_by p s None true e f g = let same : s ≡ at = cc in inr (keys_are p path f, same)
       told_by p s None false e f g = cc
 
-  -- and each that is followed ends so
-  pub follows_so : (after : Ends) → Follows ends after path at → (p : KeyTexts) → after p ≡ and_end ends path at p
-  follows_so after follows p = go (ends p) (same_keys p path) (after p) refl refl refl
-    where
-      none : (o : Option ℕ) → after p ≡ o → ((s : ℕ) → after p ≡ Some s → ⊥) → o ≡ None
-      none None e never = refl
-      none (Some s) e never = absurd (never s e)
+  -- and what ends where is known by that
+  ends_so : {after others : Ends} → Follows ends after path at → Follows ends others path at
+      → (p : KeyTexts) (s : ℕ) → after p ≡ Some s → others p ≡ Some s
+  ends_so {after} {others} follows also p s there = elim (follows.told p s there) [
+    | inl before ↦ also.kept p s before
+    | inr own ↦ elim (also.told path also.stands.0 also.stands.1) [
+      | inl before ↦ let kept = follows.kept path also.stands.0 before in cc (ap after own.0, ap others own.0)
+      | inr is ↦ cc (ap others own.0)
+    ]
+  ]
 
-      go : (o : Option ℕ) (b : Bool) (r : Option ℕ) → ends p ≡ o → same_keys p path ≡ b → after p ≡ r
-          → after p ≡ end_of (ends p) (same_keys p path)
-      go (Some s) b r e f g = follows.kept p s e ∙ sym (ap (λ o. end_of o (same_keys p path)) e)
-      go None true r e f g = rw (e, f) (own (follows.stands.0) (ap after (keys_are p path f) ∙ follows.stands.1))
-        where
-          own : (s : ℕ) → after p ≡ Some s → after p ≡ Some at
-          own s there = elim (follows.told p s there) [
-            | inl before ↦ cc
-            | inr is ↦ there ∙ ap (λ n. Some n) is.1
-          ]
-      go None false r e f g = rw (e, f) (g ∙ none r g (λ s there. elim (follows.told p s there) [
-        | inl before ↦ cc
-        | inr is ↦ false≢true (sym f ∙ ap (λ q. same_keys q path) is.0 ∙ keys_same path)
-      ]))
+  pub follows_so : (after : Ends) → Follows ends after path at → (p : KeyTexts) → after p ≡ and_end ends path at p
+  follows_so after follows p =
+      let row = row_ends follows.free in
+      same_if_some (after p) (and_end ends path at p) (ends_so follows row p) (ends_so row follows p)

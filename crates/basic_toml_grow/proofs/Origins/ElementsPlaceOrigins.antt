@@ -1,5 +1,5 @@
 -- A header that goes on into the latest element of an array of tables, and what a table that is added to one changes.
-use Rattle.std.proofs.Common.{◌≡◌, ℕ, zero, suc, true, false, List, [], ◌∷◌, ◌++◌, Option, Some, None, refl, ap, sym}
+use Rattle.std.proofs.Common.{◌≡◌, ℕ, zero, suc, false, List, [], ◌∷◌, ◌++◌, Option, Some, None, refl, ap, sym}
 use Rattle.std.proofs.Common.{◌∙◌, map, arith, length, slice_get, Vec, Box, Global, nat_eq}
 use Rattle.std.specs.Prelude.{if◌then◌else◌}
 use Prim.Native.Nat.compare
@@ -26,9 +26,6 @@ abbrev pub last_of : Option Origins → List Origins
 last_of None = []
 last_of (Some x) = x ∷ []
 
-zero_other : (n : ℕ) → nat_eq zero (suc n) ≡ false
-zero_other n = grind arith
-
 suc_other : (m : ℕ) → nat_eq (suc m) zero ≡ false
 suc_other m = grind arith
 
@@ -46,7 +43,9 @@ numbers_grow [] last now rows w grows (number zero ∷ []) not = absurd (false�
 numbers_grow [] last now rows w grows (number zero ∷ s ∷ q) not = grows s q not
 numbers_grow [] None now rows w grows (number (suc m) ∷ q) not = rw (suc_other m) refl
 numbers_grow [] (Some x) now rows w grows (number (suc m) ∷ q) not = rw (suc_other m) refl
-numbers_grow (y ∷ xs) last now rows w grows (number zero ∷ q) not = rw (zero_other (length xs)) (sym (or_none (y q)))
+numbers_grow (y ∷ xs) last now rows w grows (number zero ∷ q) not =
+    let other : nat_eq zero (suc (length xs)) ≡ false = grind arith in
+    rw other (sym (or_none (y q)))
 numbers_grow (y ∷ xs) last now rows w grows (number (suc m) ∷ q) not =
     rw (both_suc m (length xs))
     (numbers_grow xs last now rows w grows (number m ∷ q) (rw (both_suc m (length xs)) at not))
@@ -79,16 +78,14 @@ last_is : {A : Type 0} (xs : List A) (x : A) → slice_get (xs ++ x ∷ []) (len
 last_is [] x = refl
 last_is (y ∷ xs) x = last_is xs x
 
-same_number : (n m : ℕ) → nat_eq m n ≡ true → m ≡ n
-same_number n m same = grind (arith, same)
-
 pub numbers_marked : (n : ℕ) (w : Path) (xs : List Origins) (x : Origins) (o : Origin) → IsMarked n (Some o)
     → MarksWay n w x → MarksWay n (number (length xs) ∷ w) (entry o (at_numbers (xs ++ x ∷ [])))
 numbers_marked n w xs x o here marks [] on = here
 numbers_marked n w xs x o here marks (key k ∷ q) on = absurd (false≢true on)
 numbers_marked n w xs x o here marks (number i ∷ q) on =
     let parts = and_parts (nat_eq i (length xs)) (begins q w) on in
-    rw (same_number (length xs) i parts.0, last_is xs x) (marks q parts.1)
+    let same : i ≡ length xs = grind (arith, parts.0) in
+    rw (same, last_is xs x) (marks q parts.1)
 
 -- the elements of an array of tables
 abbrev pub elements_of : ℕ → ℕ → List Table → List Origins

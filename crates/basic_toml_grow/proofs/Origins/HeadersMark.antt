@@ -1,30 +1,17 @@
 -- What stands on the way of a header: headers made it, and the section of this one is the latest that leads there.
-use Rattle.std.proofs.Common.{◌≡◌, ℕ, true, List, ◌∷◌, [], refl, ap, ◌∙◌, rules}
+use Rattle.std.proofs.Common.{◌≡◌, ℕ, true, List, ◌∷◌, ap, ◌∙◌}
 use Rattle.std.specs.Prelude.{◌||◌}
-use Rattle.std.proofs.lemmas.Bool.{false≢true, and_parts, or_right}
+use Rattle.std.proofs.lemmas.Bool.{false≢true, and_parts}
 use Rattle.std.proofs.lemmas.Slice.Eq.{bytes_eq-Decides}
 use Rattle.std.specs.Str.{bytes_eq}
 use Rattle.basic_toml_grammar.specs.Steps.{Step, key, number, Path, begins}
-use Rattle.basic_toml_grow.specs.declared.item.Item.{the_lemmas}
 use Rattle.basic_toml_grow.specs.declared.item.Child.{Child}
-use Rattle.basic_toml_grow.specs.declared.item.Table.{Table, out-Table}
+use Rattle.basic_toml_grow.specs.declared.item.Table.{Table}
 use Rattle.basic_toml_value.specs.declared.pairs.growth.Place.{Place}
-use Rattle.basic_toml_grow.specs.Origins.{Origins, child_origins, table_within, with_more}
+use Rattle.basic_toml_grow.specs.Origins.{child_origins, table_within}
 use Rattle.basic_toml_grow.specs.Ways.{IsMarked, MarksWay, MarksTable}
 use Rattle.basic_toml_grow.proofs.HeadersEntered.{Passes}
-use Rattle.basic_toml_grow.proofs.TablesOpened.{opened_table}
 use Rattle.basic_toml_grow.proofs.Origins.OriginsSeen.{made_seen, section_seen, table_origins, stands_now}
-
--- the table that a header names
-pub opened_marks : (t : Table) (n : ℕ) (rows : Origins) (u : Table)
-    → table_within u ≡ with_more (table_within (opened_table t n)) rows → MarksTable n [] (table_within u)
-opened_marks t n rows u comes = record {
-  made = ap (λ w. w.made) comes ∙ made_seen (opened_table t n)
-      ∙ ap (λ m. (out-Table (opened_table t n)).passed || m) (search (rules, the_lemmas))
-      ∙ or_right _ _ refl;
-  section = ap (λ w. w.section) comes ∙ section_seen (opened_table t n) ∙ search (rules, the_lemmas);
-  below = λ s p on. absurd (false≢true on);
-}
 
 -- a table that a header passes
 pub passed_marks : {gives : Child → Type 0} {k : List ℕ} {t u : Table} {p : Place} {there now : Child} {n : ℕ}

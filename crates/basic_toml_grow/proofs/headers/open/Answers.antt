@@ -5,7 +5,6 @@ use Rattle.basic_toml_grow.specs.Item.{table_trie}
 use Rattle.basic_toml_grow.specs.Origins.{rows_origins}
 use Rattle.basic_toml_grow.proofs.TablesOpened.{open_named}
 use Rattle.basic_toml_grow.proofs.Origins.HeadersPlaceOrigins.{opened}
-use Rattle.basic_toml_grow.proofs.Origins.HeadersMark.{opened_marks}
 use Rattle.basic_toml_grow.proofs.headers.open.Goals as goal
 
 pub returns-clause-entered : goal.returns-clause-entered
@@ -18,10 +17,4 @@ pub returns-clause-origins : goal.returns-clause-origins
 returns-clause-origins c =
     IfOk-weaker c.take_rows.result _ _
     (λ x comes. opened c.args.table.now c.args.number (rows_origins c.args.number (rows_view c.args.rows.now))
-    c.take_rows.new.table comes) c.take_rows.ensures.takes.origins
-
-pub returns-clause-marks : goal.returns-clause-marks
-returns-clause-marks c =
-    IfOk-weaker c.take_rows.result _ _
-    (λ x comes. opened_marks c.args.table.now c.args.number (rows_origins c.args.number (rows_view c.args.rows.now))
     c.take_rows.new.table comes) c.take_rows.ensures.takes.origins

@@ -1,9 +1,9 @@
 use Rattle.std.proofs.Common.{◌≡◌, refl, string_bytes, map, length}
-use Rattle.std.proofs.lemmas.Option.{slice_get_past, slice_get_read}
+use Rattle.std.proofs.lemmas.Option.{slice_get_read}
 use Rattle.basic_toml_grammar.specs.Stops.{at_row}
 use Rattle.basic_toml_read.specs.SectionView.{key_of}
 use Rattle.basic_toml_grow.specs.RowStops.{key_at, SaysMet}
-use Rattle.basic_toml_grow.proofs.ClashSaysMet.{if_stop, same_row, key_said, last_said}
+use Rattle.basic_toml_grow.proofs.ClashSaysMet.{if_stop, same_row, key_said}
 use Rattle.basic_toml_grow.proofs.row_clash.row_clash.Goals as goal
 
 pub returns-in-Some-clause-named : goal.returns-in-Some-clause-named
@@ -22,14 +22,3 @@ returns-in-Some-clause-named c =
     c.saturating_sub-number.ensures path c.in_ok-path-in-Header.ensures clash key
     (slice_get_read keys (length keys) number key refl c.in-Some.ensures.lookup.3.0 c.in-Some.ensures.lookup.1)
     is)) said
-
-pub returns-in-None-clause-named : goal.returns-in-None-clause-named
-returns-in-None-clause-named c =
-    let keys = c.args.keys.now in
-    let last = key_at c.args.offset c.args.last.now in
-    let number = c.saturating_sub-number.result in
-    let path = map string_bytes c.in_ok-path-in-Header.path.items in
-    if_stop c.row-in-None.result (at_row path last) (λ clash. SaysMet (map key_of keys) last c.args.met clash)
-    (λ clash is. rw c.in-Header.is (last_said keys c.args.offset c.args.last.now c.in-Header.left number
-    c.saturating_sub-number.ensures path c.in_ok-path-in-Header.ensures clash
-    (slice_get_past keys number c.in-None.ensures.lookup.3) is)) c.row-in-None.ensures

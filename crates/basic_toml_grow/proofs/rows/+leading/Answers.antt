@@ -6,7 +6,6 @@ use Rattle.basic_toml_grammar.specs.Entering.{and_then}
 use Rattle.basic_toml_grammar.specs.Trie.{Trie, mark_here, put_row}
 use denote.Hole.Carrier.{out}
 use Rattle.basic_toml_value.specs.Growth.{with_value, values_of}
-use Rattle.basic_toml_plain.proofs.WhatIsLeft.{nothing_left}
 use Rattle.basic_toml_grow.specs.Item.{child_trie, table_trie, empty_table, trie_before}
 use Rattle.basic_toml_grow.specs.Simple.{with_entries}
 use Rattle.basic_toml_grow.proofs.ItemTries.{table_child_trie, with_entries_put}
@@ -24,16 +23,6 @@ use Rattle.basic_toml_grow.specs.Origins.{no_origins}
 use Rattle.basic_toml_grow.proofs.Origins.RowsPlaceOrigins.{origins_put, comes_below, origins_on}
 use Rattle.basic_toml_grow.proofs.Origins.RowsPlaceOrigins.{dotted_within, child_of_table, table_extended}
 use Rattle.basic_toml_grow.proofs.rows.+leading.Goals as goal
-
--- a row of one key
-pub enter_row-returns-in-None : goal.enter_row-returns-in-None
-enter_row-returns-in-None t c =
-    rw (nothing_left c.args.keys.now c.in-None.ensures.cases) c.enter_last.ensures
-
--- and one of more keys
-pub enter_row-returns-in-Some : goal.enter_row-returns-in-Some
-enter_row-returns-in-Some t c =
-    rw c.in-Some.ensures.cases.0 c.enter_dotted.ensures
 
 -- what stands at the first key: a table that was made for it, where it is new
 stands_there : (t : ℕ) (c : goal.enter_dotted-After-table-1 t)

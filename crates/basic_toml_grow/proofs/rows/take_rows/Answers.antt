@@ -1,26 +1,10 @@
-use Rattle.std.proofs.Common.{◌≡◌, length, refl, rules, arith}
+use Rattle.std.proofs.Common.{refl, rules, arith}
 use Rattle.basic_toml_read.specs.declared.section.Raw as raws
-use Rattle.basic_toml_read.specs.declared.section.Rows as tables
 use Rattle.basic_toml_plain.proofs.SimpleKeys.{keys_differ, few_are_plain, few_are_simple}
-use Rattle.basic_toml_plain.proofs.WhatIsLeft.{nothing_left}
 use Rattle.basic_toml_grow.proofs.RowsKept.{CanStay, can_stay}
-use Rattle.basic_toml_grow.proofs.RowsLeft.{none_seen, none_taken}
 use Rattle.basic_toml_grow.proofs.SimpleRows.{no_entries, all_lower, rows_in}
 use Rattle.basic_toml_grow.proofs.rows.take_rows.Goals as goal
 use Rattle.basic_toml_grow.proofs.rows.take_rows.Goals.{Then-are_few_simple}
-
-pub returns-then-is_empty-2 : goal.returns-then-is_empty-2
-returns-then-is_empty-2 c =
-    let own = tables.out-Rows c.args.rows.now in
-    let empty : length own.rows.items ≡ 0 = grind (arith, c.is_empty.ensures, c.if-is_empty.true, own.rows.ok.0) in
-    record {
-      takes = rw (none_seen c.args.rows.now empty) (none_taken c.args.section c.args.level c.args.table.now);
-      taken = (
-        nothing_left own.parents.items
-            (grind (arith, c.is_empty-then-is_empty.ensures, c.if-is_empty-2.true, own.parents.ok.0)),
-        nothing_left own.rows.items empty,
-      );
-    }
 
 -- simple rows, taken all at once
 stay_seen : (c : Then-are_few_simple) → CanStay c.args.rows.now c.args.level

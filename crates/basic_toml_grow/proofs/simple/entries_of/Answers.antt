@@ -1,35 +1,11 @@
-use Rattle.std.proofs.Common.{◌≡◌, suc, ◌+◌, ◌-◌, ◌++◌, ap, ap₂, sym, ◌∙◌, map, length, take, drop, arith}
+use Rattle.std.proofs.Common.{◌≡◌, suc, ◌+◌, ◌-◌, ap, ap₂, sym, ◌∙◌, length, take, drop, arith}
 use Rattle.basic_toml_value.specs.Entries.{pair_seen}
 use Rattle.basic_toml_value.specs.Text.{text_bytes}
 use Rattle.basic_toml_plain.specs.Plain.{key_of, are_all_plain}
 use Rattle.basic_toml_plain.proofs.WhatIsLeft.{mapped_next}
-use Rattle.basic_toml_plain.proofs.SimpleKeys.{first_plain, others_plain}
+use Rattle.basic_toml_plain.proofs.SimpleKeys.{others_plain}
 use Rattle.basic_toml_grow.specs.Simple.{entry_of}
 use Rattle.basic_toml_grow.proofs.simple.entries_of.Goals as goal
-
-pub loop-init : goal.loop-init
-loop-init c =
-    let all : c.args.count - 0 ≡ c.args.count = omega arith in
-    let none = c.in_ok-entries.ensures.items in
-    let room = c.in_ok-entries.ensures.capacity in
-    let empty = c.in_ok-entries.ensures.len in record {
-      entered = ap₂ (λ ps n. map pair_seen ps ++ map (entry_of c.args.section) (take n c.args.rows.now)) none all;
-      left = ap (λ n. drop n c.args.rows.now) all;
-      within = omega (arith, c.requires.within);
-      plain = c.requires.plain;
-      room = omega (arith, room, empty);
-    }
-
--- a row is left, since so many are
-pub unreachable-requires : goal.unreachable-requires
-unreachable-requires c =
-    let none = ap length c.in_default.ensures.steps.0 in
-    omega (arith, none, c.loop.invariant.within, c.loop-test.true)
-
-pub child_at-value-requires : goal.child_at-value-requires
-child_at-value-requires c =
-    first_plain 0 c.in-Some.row c.next.new.self
-    (ap (are_all_plain 0) (sym c.in-Some.ensures.steps) ∙ c.loop.invariant.plain)
 
 pub loop-preserved : goal.loop-preserved
 loop-preserved c =

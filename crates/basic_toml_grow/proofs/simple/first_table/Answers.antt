@@ -1,12 +1,9 @@
-use Rattle.std.proofs.Common.{List, ℕ, map, ap, ◌∙◌, length, take, arith, nat_le, true, false}
+use Rattle.std.proofs.Common.{map, length, take, arith, nat_le}
 use Rattle.std.proofs.lemmas.Bool.{and_parts}
 use Rattle.std.proofs.lemmas.List.{length-map}
 use Rattle.basic_toml_index.specs.Index.{few}
 use Rattle.basic_toml_plain.specs.Plain.{are_simple, key_of}
 use Rattle.basic_toml_plain.proofs.SimpleKeys.{few_are_simple, keys_differ}
-use Rattle.basic_toml_grow.specs.declared.item.Item.TheViews.{roll-Table}
-use Rattle.basic_toml_grow.specs.declared.item.Child.{Child}
-use Rattle.basic_toml_grow.specs.declared.item.Table.{Table}
 use Rattle.basic_toml_grow.proofs.SimpleRows.{entry_texts}
 use Rattle.basic_toml_grow.proofs.simple.first_table.Goals as goal
 
@@ -17,17 +14,3 @@ from_parts-requires c =
     rw (entry_texts c.args.own.section rows c.in_ok-entries.entries.items c.in_ok-entries.ensures.entries)
     (c.none.ensures (map key_of rows) (keys_differ 0 rows (few_are_simple 0 rows c.requires.simple))
     (grind (arith, length-map rows key_of, within)))
-
-pub returns : goal.returns
-returns c =
-    let table : List (List ℕ × Child) → Table = λ ps. roll-Table (record {
-      passed = false;
-      named = true;
-      dotted = false;
-      section = c.args.own.section;
-      entries = ps;
-    }) in
-    record {
-      table = ap table (c.from_parts.ensures ∙ c.in_ok-entries.ensures.entries);
-      left = c.in_ok-entries.ensures.left;
-    }
