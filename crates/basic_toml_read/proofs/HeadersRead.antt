@@ -168,7 +168,7 @@ module _ {bytes : List ℕ} {at start : ℕ} {is_array : Bool} (b : Opened bytes
         omega (arith, high, ap length (keys_kept is_array keys.0 close.1 h g)))
         missed;
     inside = inside;
-    deep = at_deep stop.why stop.at b.deep.leads (λ other. b.deep.backs) deep;
+    deep = at_deep stop.why stop.at _ missed b.deep.leads (λ none. b.deep.backs) deep;
     hole = λ some. key_stops_on (text_at bytes start) (in_header (text_at bytes at)) b.key stop.why
         (text_at bytes stop.at) hole;
   }

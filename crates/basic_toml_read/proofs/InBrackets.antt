@@ -63,7 +63,7 @@ array_answered bytes at next level end old new (Err stop) sign m deep hole insid
       rw (← same) high)
       m;
   inside = inside;
-  deep = at_deep stop.why stop.at (λ p d. array sign.0 d) (λ other p d. within.at_bracket sign.0 d) deep;
+  deep = at_deep stop.why stop.at _ m (λ p d. array sign.0 d) (λ none p d. within.at_bracket sign.0 d) deep;
   hole = stops_on {outer = in_value (text_at bytes at) end}
       (record { on = λ h at d. HoleInValue.array sign.0 d; same = λ at d. refl }) stop.why (text_at bytes stop.at) hole;
 }
@@ -104,7 +104,7 @@ inline_answered bytes at next level end old new (Err stop) none sign m deep hole
       rw (← same) high)
       m;
   inside = inside;
-  deep = at_deep stop.why stop.at (λ p d. inline sign.0 d) (λ other p d. within.at_brace sign.0 d) deep;
+  deep = at_deep stop.why stop.at _ m (λ p d. inline sign.0 d) (λ none p d. within.at_brace sign.0 d) deep;
   hole = stops_on {outer = in_value (text_at bytes at) end}
       (record { on = λ h at d. HoleInValue.inline sign.0 d; same = λ at d. refl }) stop.why (text_at bytes stop.at)
       hole;

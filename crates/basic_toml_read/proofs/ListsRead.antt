@@ -30,7 +30,7 @@ use Rattle.basic_toml_read.specs.SectionView.{key_of}
 use Rattle.basic_toml_grammar.proofs.Grammar.StringsAreRead.{then_some}
 use Rattle.basic_toml_grammar.proofs.Nesting.WithinTheLimit as within
 use Rattle.basic_toml_grammar.proofs.Grammar.ReaderIsSound.{rows_read, header_read, line_end_read}
-use Rattle.basic_toml_read.proofs.StandsIn.{stops_on, at_deep, is_missed, then_in, newline_stop}
+use Rattle.basic_toml_read.proofs.StandsIn.{stops_on, at_deep, then_in, newline_stop}
 use Rattle.basic_toml_read.proofs.NothingTooDeep.{root_rows, after_header, its_rows}
 use Rattle.basic_toml_read.proofs.EnoughSteps.{list_is, sections_is, sections_is_none}
 use Rattle.basic_toml_read.proofs.GoesOn.{misses_none, misses_on, then_from}
@@ -121,9 +121,8 @@ module _ (bytes : List ℕ) {start : ℕ} (start_is : start ≡ start_of bytes) 
         missed;
     inside = inside;
     more = λ g. let e = (passed (rw start_is g)).0 in cc;
-    deep = at_deep stop.why stop.at (λ p d. deep.root (rw start_is at d))
-        (λ other p d. rw start_is
-        (root_rows (rw start_is at (is_missed stop.why (rows_of (text_at bytes start)) _ other missed)) d)) is_deep;
+    deep = at_deep stop.why stop.at _ missed (λ p d. deep.root (rw start_is at d))
+        (λ none p d. rw start_is (root_rows (rw start_is at none) d)) is_deep;
     hole =
         let holes : LeadsTo (in_rows (text_at bytes start)) (in_text (folded bytes)) =
         rw start_is (record { on = λ h at d. HoleInText.root d; same = λ at d. refl }) in
@@ -218,10 +217,10 @@ module _ {bytes : List ℕ} {at : ℕ} {h : Header} (read : IsHeaderRead bytes a
           omega (arith, high, ap highest_level first, ap (λ n. rows_level (n + 1) rows.0) level_here))
           missed;
       inside = inside;
-      deep = λ text same. at_deep stop.why stop.at
+      deep = λ text same. at_deep stop.why stop.at _ missed
           (λ p (d : DeepRows nesting_limit (length h.keys + 1) (text_at bytes line) p).
           deep.this_section (deep.rows (header_is text same) keys_low over (rw level_here d)))
-          (λ other. deep_in_rows text same (is_missed stop.why (rows_of (text_at bytes line)) _ other missed)) is_deep;
+          (deep_in_rows text same) is_deep;
       hole = λ text same some. stops_on {outer = in_sections text}
           (record { on = λ p there d. HoleInSections.in_rows (header_is text same) over d; same = λ there d. refl })
           stop.why (text_at bytes stop.at) hole;
@@ -300,7 +299,7 @@ module _ (bytes : List ℕ) (at : ℕ) (list : List Section) (s : ListSoFar byte
         missed;
     inside = inside;
     more = λ g. let e = (s.gaps g).0 in cc;
-    deep = at_deep stop.why stop.at s.leads (λ other. s.backs) (is_deep s.rest bracket_here);
+    deep = at_deep stop.why stop.at _ missed s.leads (λ none. s.backs) (is_deep s.rest bracket_here);
     hole = stops_on s.holes stop.why (text_at bytes stop.at)
         (hole s.rest bracket_here (let (x, line, rest_is, here, b, some) = s.ends in some));
   }

@@ -32,7 +32,7 @@ use Rattle.basic_toml_read.proofs.LeftAfter.{sign_there, sign_missing, gap_past_
 use Rattle.basic_toml_read.proofs.LeftAfter.{gap_has_no_bracket, line_of, no_comment}
 use Rattle.basic_toml_read.proofs.GoesOn.{after, after_from, after_none, after_one, found_from, misses_after}
 use Rattle.basic_toml_read.proofs.GoesOn.{misses_none, misses_on, then_from}
-use Rattle.basic_toml_read.proofs.StandsIn.{SameDeep, at_deep, is_missed, same_deep, then_deep, stays_in, then_in}
+use Rattle.basic_toml_read.proofs.StandsIn.{SameDeep, at_deep, same_deep, then_deep, stays_in, then_in}
 use Rattle.basic_toml_read.proofs.StandsIn.{newline_stop, stops_on}
 use Rattle.basic_toml_read.proofs.FurtherOn.{row_stands}
 use Rattle.basic_toml_read.proofs.LinesGathered.{LinesSoFar, lines_start, lines_more, view_more, joined_rows}
@@ -261,9 +261,9 @@ module _ {bytes : List ℕ} {start level at : ℕ} {old new : Gathered} (s : Row
               missed);
           inside = inside;
           gaps = λ g. absurd (rows_no_gap g);
-          deep = at_deep stop.why stop.at (λ p d. s.deep.leads p (this_row (rw l.blanks.left at d)))
-              (λ other p d. rw l.blanks.left (line_row goes_on (ap row_of (sym l.blanks.left)
-              ∙ is_missed stop.why (row_of (text_at bytes front)) _ other missed) (s.deep.backs p d))) deep;
+          deep = at_deep stop.why stop.at _ missed (λ p d. s.deep.leads p (this_row (rw l.blanks.left at d)))
+              (λ none p d. rw l.blanks.left
+              (line_row goes_on (ap row_of (sym l.blanks.left) ∙ none) (s.deep.backs p d))) deep;
           hole = stops_on holes stop.why (text_at bytes stop.at) hole;
         }
           where

@@ -4,7 +4,7 @@ use Rattle.std.proofs.Common.{◌≡◌, ℕ, List, ap, Result, Ok, Err, refl, O
 use Rattle.std.proofs.Common.{◌||◌, sym, eqb-true}
 use Rattle.std.specs.Result.{IsErrAnd}
 use Rattle.std.proofs.lemmas.Bool.{or_cases}
-use Rattle.basic_toml_tokens.specs.Text.{Text}
+use Rattle.basic_toml_tokens.specs.Text.{Text, text_at}
 use Rattle.basic_toml_grammar.specs.Holes.{Fits, fits, Hole, HoleInKeys}
 use Rattle.basic_toml_grammar.specs.Reader.{char_at, end_of}
 use Rattle.basic_toml_explain.specs.Stop.{StopsInside}
@@ -26,9 +26,10 @@ Answered bytes Reads IsDeep holes result = record {
 }
 
 -- what `?` answers at a stop
-pub is_err : {A : Type 0} (result : Result A Stop) (stop : Stop) → IsErrAnd result (λ s. s ≡ stop) → result ≡ Err stop
-is_err (Ok x) stop e = absurd e
-is_err (Err s) stop e = ap (λ s. Err s) e
+pub is_err : {A : Type 0} {result : Result A Stop} {stop : Stop} → IsErrAnd result (λ s. s ≡ stop)
+    → result ≡ Err stop
+is_err {result = Ok x} e = absurd e
+is_err {result = Err s} e = ap (λ s. Err s) e
 
 -- the same is too deep in both
 pub record SameDeep (Inner Outer : ℕ → Type 0) : Type 0 where
@@ -42,29 +43,13 @@ pub then_deep : {First Second Third : ℕ → Type 0} → SameDeep First Second 
     → SameDeep First Third
 then_deep f g = record { leads = λ p d. g.leads p (f.leads p d); backs = λ p d. f.backs p (g.backs p d) }
 
--- a stop of the grammar
-abbrev pub IsOther : Why → Type 0
-IsOther Memory = ⊥
-IsOther Deep = ⊥
-IsOther _ = Unit {0}
-
-pub is_missed : {A : Type 0} (w : Why) (o : Option A) (P : A → Type 0) → IsOther w → Misses w o P → o ≡ None
-is_missed Memory o P other m = absurd other
-is_missed Deep o P other m = absurd other
-is_missed _ o P other m = m
-
--- a stop in the one is a stop in the other
-pub at_deep : {Inner Outer : ℕ → Type 0} (w : Why) (at : ℕ) → ((p : ℕ) → Inner p → Outer p)
-    → (IsOther w → (p : ℕ) → Outer p → Inner p) → AtDeep Inner w at → AtDeep Outer w at
-at_deep Memory at f g d = tt
-at_deep Deep at f g d = f at d
-at_deep _ at f g d = λ p e. d p (g tt p e)
-
-pub at_none : {Outer : ℕ → Type 0} (w : Why) (at : ℕ) → (w ≡ Deep → ⊥) → (IsOther w → (p : ℕ) → Outer p → ⊥)
+-- a stop in a part is one in the whole, which goes on as the part does where nothing is found there
+pub at_deep : {A : Type 0} {Inner Outer : ℕ → Type 0} {o : Option A} (w : Why) (at : ℕ) (High : A → Type 0)
+    → Misses w o High → ((p : ℕ) → Inner p → Outer p) → (o ≡ None → (p : ℕ) → Outer p → Inner p) → AtDeep Inner w at
     → AtDeep Outer w at
-at_none Memory at f g = tt
-at_none Deep at f g = absurd (f refl)
-at_none _ at f g = g tt
+at_deep Memory at High m f g d = tt
+at_deep Deep at High m f g d = f at d
+at_deep _ at High m f g d = λ p e. d p (g m p e)
 
 -- holes
 pub stays_in : {holes : Holes} → LeadsTo holes holes
@@ -100,6 +85,26 @@ stops_on l (why.Word end) at s = record {
   behind_it = l.same at s.hole ∙ s.behind_it;
   none = s.none;
   some = s.some;
+}
+
+-- what is known of a stop, and what follows of it in a whole
+abbrev pub StopIn : {A : Type 0} → List ℕ → Option A → (A → Type 0) → (ℕ → Type 0) → Holes → Stop → Type 0
+StopIn bytes o High IsDeep holes stop = record {
+  read : Misses stop.why o High;
+  inside : StopsInside bytes stop;
+  deep : AtDeep IsDeep stop.why stop.at;
+  hole : StopsFor holes.HoleIn holes.behind stop.why (text_at bytes stop.at);
+}
+
+pub stop_in_whole : {A B : Type 0} {Inner Outer : ℕ → Type 0} {inner outer : Holes} {o : Option A} (bytes : List ℕ)
+    (whole : Option B) (High : A → Type 0) (Higher : B → Type 0) (stop : Stop) → StopIn bytes o High Inner inner stop
+    → Misses stop.why whole Higher → ((p : ℕ) → Inner p → Outer p) → (o ≡ None → (p : ℕ) → Outer p → Inner p)
+    → LeadsTo inner outer → StopIn bytes whole Higher Outer outer stop
+stop_in_whole bytes whole High Higher stop e missed leads backs on = record {
+  read = missed;
+  inside = e.inside;
+  deep = at_deep stop.why stop.at High e.read leads backs e.deep;
+  hole = stops_on on stop.why (text_at bytes stop.at) e.hole;
 }
 
 -- a stop in keys

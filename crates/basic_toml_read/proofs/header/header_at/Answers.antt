@@ -17,8 +17,7 @@ two c = two_brackets c.after_blanks-in-Some.ensures c.in_ok-inner.ensures.read c
 pub returns-in_err-inner : goal.returns-in_err-inner
 returns-in_err-inner c =
     let e = c.in_err-inner.ensures.read in
-    let r = c.from_residual in
-    rw (is_err r.result c.in_err-inner.field-0.0 r.ensures.1 ∙ ap (λ s. Err s) e.1) (record {
+    rw (is_err c.from_residual.ensures.1 ∙ ap (λ s. Err s) e.1) (record {
       read = no_bracket (text_at c.args.text.now c.args.at) e.0;
       inside = inr c.requires.boundary;
       deep = λ p d. no_header_there e.0 d;
@@ -31,15 +30,13 @@ returns-in_err-after-in-None c =
     let b = one (goal.at.returns-in_err-after-in-None c).After-after_blanks in
     let stop = c.in_err-after-in-None.field-0.0 in
     let e = c.in_err-after-in-None.ensures in
-    let r = c.from_residual-in_err-after-in-None in
-    rw (is_err r.result stop r.ensures.1) (no_header_keys b stop e.read e.inside e.deep e.hole)
+    rw (is_err c.from_residual-in_err-after-in-None.ensures.1) (no_header_keys b stop e.read e.inside e.deep e.hole)
 
 pub returns-in_err-end-in-None : goal.returns-in_err-end-in-None
 returns-in_err-end-in-None c =
     let b = one (goal.at.returns-in_err-end-in-None c).After-after_blanks in
     let e = c.in_err-end-in-None.ensures.read in
-    let r = c.from_residual-in_err-end-in-None in
-    rw (is_err r.result c.in_err-end-in-None.field-0.0 r.ensures.1 ∙ ap (λ s. Err s) e.1)
+    rw (is_err c.from_residual-in_err-end-in-None.ensures.1 ∙ ap (λ s. Err s) e.1)
     (unclosed b c.in_ok-after-in-None.ensures.read e.0)
 
 pub returns-in_ok-end-in-None-clause-read : goal.returns-in_ok-end-in-None-clause-read
@@ -56,23 +53,20 @@ returns-in_err-after-in-Some c =
     let b = two (goal.at.returns-in_err-after-in-Some c).After-after_blanks-in-Some in
     let stop = c.in_err-after-in-Some.field-0.0 in
     let e = c.in_err-after-in-Some.ensures in
-    let r = c.from_residual-in_err-after-in-Some in
-    rw (is_err r.result stop r.ensures.1) (no_header_keys b stop e.read e.inside e.deep e.hole)
+    rw (is_err c.from_residual-in_err-after-in-Some.ensures.1) (no_header_keys b stop e.read e.inside e.deep e.hole)
 
 pub returns-in_err-last-in-Some : goal.returns-in_err-last-in-Some
 returns-in_err-last-in-Some c =
     let b = two (goal.at.returns-in_err-last-in-Some c).After-after_blanks-in-Some in
     let e = c.in_err-last-in-Some.ensures.read in
-    let r = c.from_residual-in_err-last-in-Some in
-    rw (is_err r.result c.in_err-last-in-Some.field-0.0 r.ensures.1 ∙ ap (λ s. Err s) e.1)
+    rw (is_err c.from_residual-in_err-last-in-Some.ensures.1 ∙ ap (λ s. Err s) e.1)
     (unclosed b c.in_ok-after-in-Some.ensures.read e.0)
 
 pub returns-in_err-end-in-Some : goal.returns-in_err-end-in-Some
 returns-in_err-end-in-Some c =
     let b = two (goal.at.returns-in_err-end-in-Some c).After-after_blanks-in-Some in
     let e = c.in_err-end-in-Some.ensures.read in
-    let r = c.from_residual-in_err-end-in-Some in
-    rw (is_err r.result c.in_err-end-in-Some.field-0.0 r.ensures.1 ∙ ap (λ s. Err s) e.1)
+    rw (is_err c.from_residual-in_err-end-in-Some.ensures.1 ∙ ap (λ s. Err s) e.1)
     (half_closed b c.in_ok-after-in-Some.ensures.read c.in_ok-last-in-Some.last c.in_ok-last-in-Some.ensures.read refl
     e.0)
 

@@ -26,14 +26,12 @@ pub returns-in_err-keyed : goal.returns-in_err-keyed
 returns-in_err-keyed c =
     let stop = c.in_err-keyed.field-0.0 in
     let e = c.in_err-keyed.ensures in
-    let r = c.from_residual-in_err-keyed in
-    rw (is_err r.result stop r.ensures.1)
+    rw (is_err c.from_residual-in_err-keyed.ensures.1)
     (header_keys_stop c.args.text.now c.args.at stop (no_key c.loop-keyed.invariant stop e.read e.inside))
 
 pub returns-in_err-raise : goal.returns-in_err-raise
 returns-in_err-raise c =
     let e = c.in_err-raise.ensures in
-    let r = c.from_residual-in_err-raise in
-    rw (is_err r.result c.in_err-raise.field-0.0 r.ensures.1 ∙ ap (λ s. Err s) e.1)
+    rw (is_err c.from_residual-in_err-raise.ensures.1 ∙ ap (λ s. Err s) e.1)
     (header_keys_stop c.args.text.now c.args.at (record { at = c.loop-keyed.offset; why = Deep })
     (key_too_deep c.loop-keyed.invariant c.in_ok-keyed.keyed c.in_ok-keyed.ensures.read e.0))

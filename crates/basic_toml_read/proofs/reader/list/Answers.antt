@@ -11,7 +11,6 @@ returns-in_err-push c =
     let reader = c.next.new.self in
     let text : reader.text.now ≡ c.args.text.now =
     ap (λ t. t.now) c.in_ok-next.ensures.text ∙ c.loop-section.invariant.0 in
-    let r = c.from_residual-in_err-push in
-    rw (is_err r.result no_memory r.ensures.1, ← text)
+    rw (is_err c.from_residual-in_err-push.ensures.1, ← text)
     (refused_after reader list (section_of c.next.new.section) no_memory
     (rw c.if-branch.true at c.in_ok-next.ensures.read list c.loop-section.invariant.3) refl)

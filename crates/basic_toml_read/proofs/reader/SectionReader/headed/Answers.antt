@@ -14,8 +14,7 @@ returns-in_err-header c =
     let at = c.in-Some.at in
     let stop = c.in_err-header.field-0.0 in
     let e = c.in_err-header.ensures in
-    let r = c.from_residual in
-    rw (is_err r.result stop r.ensures.1) (stops_on stop refl (λ list so_far.
+    rw (is_err c.from_residual.ensures.1) (stops_on stop refl (λ list so_far.
     list_stops c.args.self.now.text.now at list (rw (c.requires.behind ∙ ap (λ o. Behind o) c.in-Some.is) at so_far)
     stop e.read e.inside e.deep e.hole))
 

@@ -4,10 +4,9 @@ use Rattle.basic_toml_grammar.specs.DeepStops.{keys, this_brace, this_bracket, t
 use Rattle.basic_toml_grammar.specs.DeepStops.{fields}
 use Rattle.basic_toml_grammar.specs.Holes.{HoleInElements, HoleInFieldsOn, HoleInRow}
 use Rattle.basic_toml_explain.specs.StopHoles.{hole_behind}
-use Rattle.basic_toml_read.specs.FrontOf.{keys_of, value_of, row_of}
 use Rattle.basic_toml_read.specs.StopsReached.{in_elements, in_fields, in_row}
 use Rattle.basic_toml_grammar.proofs.Nesting.WithinTheLimit as within
-use Rattle.basic_toml_read.proofs.StandsIn.{is_err, at_deep, is_missed, key_stops_on, moved_in, stops_on, then_in}
+use Rattle.basic_toml_read.proofs.StandsIn.{is_err, at_deep, key_stops_on, moved_in, stop_in_whole, then_in}
 use Rattle.basic_toml_read.proofs.LeftAfter.{sign_missing}
 use Rattle.basic_toml_read.proofs.ElementsGathered.{elements_start, elements_end, elements_missing, elements_more}
 use Rattle.basic_toml_read.proofs.ElementsGathered.{elements_close}
@@ -34,20 +33,15 @@ elements-returns-in-Some-clause-read t c = elements_end c.loop-end.invariant c.i
 pub elements-returns-in_err-valued : goal.elements-returns-in_err-valued
 elements-returns-in_err-valued t c =
     let i = c.loop-end.invariant in
-    let here = text_at c.args.text.now c.loop-end.at in
+    let bytes = c.args.text.now in
     let stop = c.in_err-valued.field-0.0 in
     let e = c.in_err-valued.ensures in
-    let r = c.from_residual in
-    rw (is_err r.result stop r.ensures.1) (record {
-      read = elements_missing i c.in_default.ensures stop.why e.read;
-      inside = e.inside;
-      deep = at_deep stop.why stop.at (λ p d. i.deep.leads p (this_element d))
-          (λ other p d. its_value (is_missed stop.why (value_of here) _ other e.read) (i.deep.backs p d)) e.deep;
-      hole = stops_on (then_in (record {
-        on = λ h at d. HoleInElements.in_element (sign_missing 93 here c.in_default.ensures) d;
-        same = λ at d. refl;
-      }) i.holes) stop.why (text_at c.args.text.now stop.at) e.hole;
-    })
+    rw (is_err c.from_residual.ensures.1) (stop_in_whole _ _ _ _ stop e
+    (elements_missing i c.in_default.ensures stop.why e.read) (λ p d. i.deep.leads p (this_element d))
+    (λ none p d. its_value none (i.deep.backs p d)) (then_in (record {
+      on = λ h at d. HoleInElements.in_element (sign_missing 93 (text_at bytes c.loop-end.at) c.in_default.ensures) d;
+      same = λ at d. refl;
+    }) i.holes))
 
 pub elements-returns-in_default-after_punctuation : goal.elements-returns-in_default-after_punctuation
 elements-returns-in_default-after_punctuation t c =
@@ -78,16 +72,9 @@ fields-returns-in_err-row t c =
     let i = c.loop-after.invariant in
     let stop = c.in_err-row.field-0.0 in
     let e = c.in_err-row.ensures in
-    let r = c.from_residual in
-    rw (is_err r.result stop r.ensures.1) (record {
-      read = fields_missing i stop.why e.read;
-      inside = e.inside;
-      deep = at_deep stop.why stop.at (λ p d. i.deep.leads p (this_field d))
-          (λ other p d. its_row (is_missed stop.why (row_of (text_at c.args.text.now c.loop-after.at)) _ other e.read)
-          (i.deep.backs p d)) e.deep;
-      hole = stops_on (then_in (record { on = λ h at d. HoleInFieldsOn.in_row d; same = λ at d. refl }) i.holes)
-          stop.why (text_at c.args.text.now stop.at) e.hole;
-    })
+    rw (is_err c.from_residual.ensures.1) (stop_in_whole _ _ _ _ stop e (fields_missing i stop.why e.read)
+    (λ p d. i.deep.leads p (this_field d)) (λ none p d. its_row none (i.deep.backs p d))
+    (then_in (record { on = λ h at d. HoleInFieldsOn.in_row d; same = λ at d. refl }) i.holes))
 
 pub fields-returns-in_default-after_punctuation : goal.fields-returns-in_default-after_punctuation
 fields-returns-in_default-after_punctuation t c =
@@ -104,12 +91,10 @@ row-returns-in_err-last t c =
     let here = text_at c.args.text.now c.args.at in
     let stop = c.in_err-last.field-0.0 in
     let e = c.in_err-last.ensures in
-    let r = c.from_residual in
-    rw (is_err r.result stop r.ensures.1) (record {
+    rw (is_err c.from_residual.ensures.1) (record {
       read = keys_missed c.args.level here stop.why e.read;
       inside = e.inside;
-      deep = at_deep stop.why stop.at (λ p d. keys d)
-          (λ other p d. row_keys (is_missed stop.why (keys_of here) _ other e.read) d) e.deep;
+      deep = at_deep stop.why stop.at _ e.read (λ p d. keys d) (λ none p d. row_keys none d) e.deep;
       hole = key_stops_on here (in_row here (hole_behind c.args.end)) (λ there d. HoleInRow.in_keys d) stop.why
           (text_at c.args.text.now stop.at) e.hole;
     })
@@ -131,15 +116,10 @@ row-returns-in_err-valued t c =
     let sign = c.in-Some.ensures in
     let stop = c.in_err-valued.field-0.0 in
     let e = c.in_err-valued.ensures in
-    let r = c.from_residual-in_err-valued in
     let deep = value_deep k left sign in
-    rw (is_err r.result stop r.ensures.1) (record {
-      read = value_missing k left sign stop.why e.read;
-      inside = e.inside;
-      deep = at_deep stop.why stop.at deep.leads (λ other. deep.backs) e.deep;
-      hole = stops_on (to_its_value k left sign (hole_behind c.args.end)) stop.why (text_at c.args.text.now stop.at)
-          e.hole;
-    })
+    rw (is_err c.from_residual-in_err-valued.ensures.1) (stop_in_whole _ _ _ _ stop e
+    (value_missing k left sign stop.why e.read) deep.leads (λ none. deep.backs)
+    (to_its_value k left sign (hole_behind c.args.end)))
 
 pub row-returns-clause-read : goal.row-returns-clause-read
 row-returns-clause-read t c =
@@ -178,8 +158,7 @@ value-returns t c =
 pub array-returns-in_err-raise : goal.array-returns-in_err-raise
 array-returns-in_err-raise t c =
     let e = c.in_err-raise.ensures in
-    let r = c.from_residual in
-    rw (is_err r.result c.in_err-raise.field-0.0 r.ensures.1 ∙ ap (λ s. Err s) e.1) (record {
+    rw (is_err c.from_residual.ensures.1 ∙ ap (λ s. Err s) e.1) (record {
       read = λ x is. inl e.0;
       inside = search rules;
       deep = this_bracket e.0;
@@ -191,14 +170,9 @@ array-returns-in_err-end t c =
     let left = c.after_gap.ensures in
     let stop = c.in_err-end.field-0.0 in
     let e = c.in_err-end.ensures in
-    let r = c.from_residual-in_err-end in
-    rw (is_err r.result stop r.ensures.1) (record {
-      read = search rules;
-      inside = e.inside;
-      deep = at_deep stop.why stop.at (λ p d. elements c.in_ok-raise.ensures (rw left.left at d))
-          (λ other p d. rw left.left (within.in_array c.in_ok-raise.ensures d)) e.deep;
-      hole = stops_on (moved_in in_elements left.left) stop.why (text_at c.args.text.now stop.at) e.hole;
-    })
+    rw (is_err c.from_residual-in_err-end.ensures.1) (stop_in_whole _ _ _ _ stop e (search rules)
+    (λ p d. elements c.in_ok-raise.ensures (rw left.left at d))
+    (λ none p d. rw left.left (within.in_array c.in_ok-raise.ensures d)) (moved_in in_elements left.left))
 
 pub array-returns-clause-read : goal.array-returns-clause-read
 array-returns-clause-read t c =
@@ -211,8 +185,7 @@ array-returns-clause-read t c =
 pub inline-returns-in_err-raise : goal.inline-returns-in_err-raise
 inline-returns-in_err-raise t c =
     let e = c.in_err-raise.ensures in
-    let r = c.from_residual in
-    rw (is_err r.result c.in_err-raise.field-0.0 r.ensures.1 ∙ ap (λ s. Err s) e.1) (record {
+    rw (is_err c.from_residual.ensures.1 ∙ ap (λ s. Err s) e.1) (record {
       read = λ x is. inl e.0;
       inside = search rules;
       deep = this_brace e.0;
@@ -224,14 +197,9 @@ inline-returns-in_err-end t c =
     let left = c.after_blanks.ensures in
     let stop = c.in_err-end.field-0.0 in
     let e = c.in_err-end.ensures in
-    let r = c.from_residual-in_err-end in
-    rw (is_err r.result stop r.ensures.1) (record {
-      read = search rules;
-      inside = e.inside;
-      deep = at_deep stop.why stop.at (λ p d. fields c.in_ok-raise.ensures (rw left.left at d))
-          (λ other p d. rw left.left (within.in_inline c.in_ok-raise.ensures d)) e.deep;
-      hole = stops_on (moved_in in_fields left.left) stop.why (text_at c.args.text.now stop.at) e.hole;
-    })
+    rw (is_err c.from_residual-in_err-end.ensures.1) (stop_in_whole _ _ _ _ stop e (search rules)
+    (λ p d. fields c.in_ok-raise.ensures (rw left.left at d))
+    (λ none p d. rw left.left (within.in_inline c.in_ok-raise.ensures d)) (moved_in in_fields left.left))
 
 pub inline-returns-clause-read : goal.inline-returns-clause-read
 inline-returns-clause-read t c =

@@ -84,8 +84,7 @@ returns-in_err-at c =
     let sign = sign_stands 35 c.args.text.now c.after_blanks-front.result c.after_punctuation-in-loop-at.result
     c.after_punctuation-in-loop-at.ensures c.if-is_some-2.ensures in
     let e = c.in_err-at.ensures.read in
-    let r = c.from_residual in
-    rw (is_err r.result c.in_err-at.field-0.0 r.ensures.1 ∙ ap (λ s. Err s) e.1)
+    rw (is_err c.from_residual.ensures.1 ∙ ap (λ s. Err s) e.1)
     (comment_stops c.loop-at.invariant l.line l.none (ap end_of same ∙ e.0) sign.0 c.after_comment.result sign.1 same
     e.0 c.after_comment.ensures.boundary)
 
@@ -95,8 +94,7 @@ returns-in_err-end-in-None c =
     let l = no_header p.Else-is_some in
     let stop = c.in_err-end-in-None.field-0.0 in
     let e = c.in_err-end-in-None.ensures in
-    let r = c.from_residual-in_err-end-in-None in
-    rw (is_err r.result stop r.ensures.1)
+    rw (is_err c.from_residual-in_err-end-in-None.ensures.1)
     (row_stops c.loop-at.invariant l.line l.none (same_end p.Else-is_some-2 ∙ c.in-None.ensures) c.row.new.self
     (no_hash p.Else-is_some-2) stop e.read e.deep e.hole e.inside)
 
@@ -106,8 +104,7 @@ returns-in_err-at-in-None c =
     let l = no_header p.Else-is_some in
     let stop = c.in_err-at-in-None.field-0.0 in
     let e = c.in_err-at-in-None.ensures in
-    let r = c.from_residual-in_err-at-in-None in
-    rw (is_err r.result stop r.ensures.1)
+    rw (is_err c.from_residual-in_err-at-in-None.ensures.1)
     (unended_stops c.loop-at.invariant l.line l.none (same_end p.Else-is_some-2 ∙ c.in-None.ensures)
     c.in_ok-end-in-None.ensures.read stop e.read e.inside)
 

@@ -4,7 +4,7 @@ use Rattle.basic_toml_grammar.specs.DeepStops.{header, this_section}
 use Rattle.basic_toml_grammar.specs.Holes.{HoleInSections}
 use Rattle.basic_toml_read.specs.FrontOf.{header_of}
 use Rattle.basic_toml_read.specs.StopsReached.{in_header, in_sections}
-use Rattle.basic_toml_read.proofs.StandsIn.{is_err, at_deep, is_missed, moved_in, stops_on, then_in}
+use Rattle.basic_toml_read.proofs.StandsIn.{is_err, at_deep, moved_in, stops_on, then_in}
 use Rattle.basic_toml_read.proofs.NothingTooDeep.{its_header}
 use Rattle.basic_toml_read.proofs.ListsRead.{line_stops, rows_stop, section_there}
 use Rattle.basic_toml_read.proofs.values.Gathered.section.Goals as goal
@@ -12,16 +12,13 @@ use Rattle.basic_toml_read.proofs.values.Gathered.section.Goals as goal
 -- no header
 pub returns-in_err-header : goal.returns-in_err-header
 returns-in_err-header c =
-    let here = text_at c.args.text.now c.args.at in
     let stop = c.in_err-header.field-0.0 in
     let e = c.in_err-header.ensures in
-    let r = c.from_residual in
-    rw (is_err r.result stop r.ensures.1) (record {
+    rw (is_err c.from_residual.ensures.1) (record {
       read = search rules;
       inside = e.inside;
-      deep = λ line same. at_deep stop.why stop.at (λ p d. this_section (header (rw same at d)))
-          (λ other p d. rw same (its_header
-          (ap header_of (sym same) ∙ is_missed stop.why (header_of here) _ other e.read) d)) e.deep;
+      deep = λ line same. at_deep stop.why stop.at _ e.read (λ p d. this_section (header (rw same at d)))
+          (λ none p d. rw same (its_header (ap header_of (sym same) ∙ none) d)) e.deep;
       hole = λ line same some. stops_on {outer = in_sections line} (then_in (moved_in in_header same)
           (record { on = λ h at d. HoleInSections.in_header d; same = λ at d. refl })) stop.why
           (text_at c.args.text.now stop.at) (e.hole some);
@@ -32,8 +29,7 @@ pub returns-in_err-line : goal.returns-in_err-line
 returns-in_err-line c =
     let stop = c.in_err-line.field-0.0 in
     let e = c.in_err-line.ensures in
-    let r = c.from_residual-in_err-line in
-    rw (is_err r.result stop r.ensures.1) (line_stops c.in_ok-header.ensures.read stop e.read e.inside)
+    rw (is_err c.from_residual-in_err-line.ensures.1) (line_stops c.in_ok-header.ensures.read stop e.read e.inside)
 
 -- the rows
 pub returns-in_err-next : goal.returns-in_err-next
@@ -42,8 +38,7 @@ returns-in_err-next c =
     omega (arith, c.len.ensures, c.header_at.new.keys.ok.0) in
     let stop = c.in_err-next.field-0.0 in
     let e = c.in_err-next.ensures in
-    let r = c.from_residual-in_err-next in
-    rw (is_err r.result stop r.ensures.1)
+    rw (is_err c.from_residual-in_err-next.ensures.1)
     (rows_stop c.in_ok-header.ensures.read c.in_ok-line.line c.in_ok-line.ensures.read stop (rw counted at e.read)
     e.inside (rw counted at e.deep) e.hole)
 
