@@ -34,46 +34,21 @@ use Rattle.basic_toml_read.proofs.GoesOn.{then_from}
 use Rattle.basic_toml_read.proofs.LeftAfter.{sign_there, sign_missing}
 use Rattle.basic_toml_read.proofs.ViewsSeen.{element_seen}
 
--- elements one after another
-pub joined : Elements → Elements → Elements
-joined no_elements es = es
-joined (element p v ds) es = element p v (joined ds es)
-
-joined_more : (front : Elements) (p : ℕ) (v : Raw) (es : Elements)
-    → joined front (element p v es) ≡ joined (joined front (element p v no_elements)) es
-unfolding joined
-joined_more no_elements p v es = refl
-joined_more (element q w front) p v es = ap (element q w) (joined_more front p v es)
-
-joined_none : (front : Elements) → joined front no_elements ≡ front
-unfolding joined
-joined_none no_elements = refl
-joined_none (element q w front) = ap (element q w) (joined_none front)
-
-level_joined : (l : ℕ) (front es : Elements)
-    → elements_level l (joined front es) ≡ max (elements_level l front) (elements_level l es)
-unfolding joined
-level_joined l no_elements es = omega arith
-level_joined l (element p v front) es = omega (arith, level_joined l front es)
-
 -- an element more, as its value was read
 abbrev element_of : Valued → Element
 element_of v = roll-Element (record { offset = v.offset; end = v.end; value = v.value })
 
-elements_view_more : (es : List Element) (v : Valued) (raw : Raw) → raw_of v.value ≡ raw
-    → elements_view (es ++ element_of v ∷ []) ≡ joined (elements_view es) (element v.offset raw no_elements)
-unfolding joined
-elements_view_more [] v raw e = rw (element_seen v.offset v.end v.value, e) refl
-elements_view_more (x ∷ es) v raw e =
-    ap (element (placed_of x).offset (placed_of x).value) (elements_view_more es v raw e)
-
 abbrev pub with_elements : Gathered → Vec Element Global → Gathered
 with_elements g elements = record { alloc = g.alloc; elements = elements; parents = g.parents; rows = g.rows }
 
--- the elements of an array up to an offset
+-- the elements of an array up to an offset, and how they join those after it
 pub record ElementsSoFar (bytes : List ℕ) (start level at : ℕ) (old new : Gathered) : Type 0 where
   pub got : List Element
-  pub told : elements_of (text_at bytes start) ≡ after (joined (elements_view got)) (elements_of (text_at bytes at))
+  pub join : Elements → Elements
+  pub seen : (more : List Element) → elements_view (got ++ more) ≡ join (elements_view more)
+  pub high : (es : Elements)
+      → elements_level level (join es) ≡ max (elements_level level (elements_view got)) (elements_level level es)
+  pub told : elements_of (text_at bytes start) ≡ after join (elements_of (text_at bytes at))
   pub pushed : new.elements.items ≡ old.elements.items ++ got
   pub lines : lines_of new ≡ lines_of old
   pub limit : elements_level level (elements_view got) ≤ nesting_limit
@@ -85,9 +60,11 @@ pub record ElementsSoFar (bytes : List ℕ) (start level at : ℕ) (old new : Ga
 
 pub elements_start : (bytes : List ℕ) (start level : ℕ) (old : Gathered) → IsCharBoundary bytes start
     → ElementsSoFar bytes start level start old old
-unfolding joined
 elements_start bytes start level old b = record {
   got = [];
+  join = λ es. es;
+  seen = λ more. refl;
+  high = λ es. omega arith;
   told = after_none (elements_of (text_at bytes start));
   pushed = sym (append-nil old.elements.items);
   lines = refl;
@@ -120,7 +97,8 @@ module _ {bytes : List ℕ} {start level at : ℕ} {old new : Gathered} (s : Ele
     elements_end end sign = record {
       added = s.got;
       is = s.told ∙ after_from _ (elements_is (text_at bytes at) ∙ found_from _ _ (sign_there sign.0))
-          ∙ ap (λ (es : Elements). Some (es, text_at bytes end)) (joined_none (elements_view s.got));
+          ∙ ap (λ (es : Elements). Some (es, text_at bytes end))
+          (sym (s.seen []) ∙ ap elements_view (append-nil s.got));
       pushed = s.pushed;
       lines = s.lines;
       limit = s.limit;
@@ -130,7 +108,7 @@ module _ {bytes : List ℕ} {start level at : ℕ} {old new : Gathered} (s : Ele
 
     module _ (unclosed : IsPunctuationEnd 93 bytes at None) where
       by_value : elements_of (text_at bytes start)
-          ≡ after (joined (elements_view s.got)) (and_then (value_of (text_at bytes at)) (after_value elements_of))
+          ≡ after s.join (and_then (value_of (text_at bytes at)) (after_value elements_of))
       by_value =
           s.told ∙ after_from _
           (elements_is (text_at bytes at) ∙ found_from _ _ (sign_missing 93 (text_at bytes at) unclosed))
@@ -141,7 +119,7 @@ module _ {bytes : List ℕ} {start level at : ℕ} {old new : Gathered} (s : Ele
           → Misses w (elements_of (text_at bytes start)) (λ r. nesting_limit < elements_level level r.0)
       elements_missing w m =
           misses_after w _ _ (λ es. nesting_limit < elements_level level es) by_value
-          (λ es h. omega (arith, h, level_joined level (elements_view s.got) es))
+          (λ es h. omega (arith, h, s.high es))
           (misses_on w (value_of (text_at bytes at)) (after_value elements_of) _ _ refl
           (λ v r e h. omega (arith, h, level_on level v r e)) m)
 
@@ -149,37 +127,46 @@ module _ {bytes : List ℕ} {start level at : ℕ} {old new : Gathered} (s : Ele
       module _ {mid : Gathered} {v : Valued} {after' : ℕ} (r : IsValueRead bytes at level new mid v)
           (left : Leaves bytes v.end after' (gap (text_at bytes v.end))) (elements : Vec Element Global)
           (pushed : elements.items ≡ mid.elements.items ++ element_of v ∷ []) where
-        view' : elements_view (s.got ++ element_of v ∷ [])
-            ≡ joined (elements_view s.got) (element v.offset r.found.raw no_elements)
-        view' = elements_view_more s.got v r.found.raw r.found.seen
+        this : Elements → Elements
+        this es = element v.offset r.found.raw es
+
+        view' : (more : List Element)
+            → elements_view (s.got ++ (element_of v ∷ more)) ≡ s.join (this (elements_view more))
+        unfolding this
+        view' more =
+            s.seen (element_of v ∷ more) ∙ ap s.join (rw (element_seen v.offset v.end v.value, r.found.seen) refl)
+
+        high' : (es : Elements) → elements_level level (s.join (this es))
+            ≡ max (elements_level level (elements_view (s.got ++ element_of v ∷ []))) (elements_level level es)
+        unfolding this
+        high' es =
+            omega (arith, ap (elements_level level) (view' []), s.high (this no_elements), s.high (this es))
 
         limit' : elements_level level (elements_view (s.got ++ element_of v ∷ [])) ≤ nesting_limit
-        limit' = omega (
-          arith,
-          ap (elements_level level) view',
-          level_joined level (elements_view s.got) (element v.offset r.found.raw no_elements),
-          s.limit,
-          r.limit,
-        )
+        unfolding this
+        limit' = omega (arith, ap (elements_level level) (view' []), s.high (this no_elements), s.limit, r.limit)
 
         pushed' : elements.items ≡ old.elements.items ++ (s.got ++ element_of v ∷ [])
         pushed' =
             pushed ∙ rw (r.keeps.elements, s.pushed) (append_assoc old.elements.items s.got (element_of v ∷ []))
 
         told' : elements_of (text_at bytes start)
-            ≡ after (joined (elements_view s.got))
+            ≡ after s.join
             (after_value elements_of (record { offset = v.offset; value = r.found.raw; rest = text_at bytes v.end }))
         told' = by_value ∙ after_from _ (then_from _ r.found.is)
 
         pub elements_more : {next at' : ℕ} → Leaves bytes next at' (gap (text_at bytes next))
             → IsPunctuationEnd 44 bytes after' (Some next)
             → ElementsSoFar bytes start level at' old (with_elements mid elements)
+        unfolding this
         elements_more {next = next} later sign = record {
           got = s.got ++ element_of v ∷ [];
-          told = rw (view', later.left) (told'
+          join = λ es. s.join (this es);
+          seen = λ more. ap elements_view (append_assoc s.got (element_of v ∷ []) more) ∙ view' more;
+          high = high';
+          told = rw later.left (told'
               ∙ after_from _ (found_from _ _ (ap (char_at 44) (sym left.left) ∙ sign_there sign.0))
-              ∙ after_one _ _ _ (elements_of (gap (text_at bytes next)))
-              (joined_more (elements_view s.got) v.offset r.found.raw));
+              ∙ after_one _ _ _ (elements_of (gap (text_at bytes next))) (λ es. refl));
           pushed = pushed';
           lines = r.keeps.lines ∙ s.lines;
           limit = limit';
@@ -192,8 +179,8 @@ module _ {bytes : List ℕ} {start level at : ℕ} {old new : Gathered} (s : Ele
         -- where no comma follows
         module _ (none : IsPunctuationEnd 44 bytes after' None) where
           last_on : elements_of (text_at bytes start)
-              ≡ after (joined (elements_view s.got))
-              (and_then (char_at 93 (text_at bytes after')) (λ s. Some (element v.offset r.found.raw no_elements, s.1)))
+              ≡ after s.join (and_then (char_at 93 (text_at bytes after')) (λ s. Some (this no_elements, s.1)))
+          unfolding this
           last_on = told' ∙ after_from _
               (found_from _ _ (ap (char_at 44) (sym left.left) ∙ sign_missing 44 (text_at bytes after') none)
               ∙ then_from _ (ap (char_at 93) (sym left.left)))
@@ -205,7 +192,7 @@ module _ {bytes : List ℕ} {start level at : ℕ} {old new : Gathered} (s : Ele
           elements_close (Ok close) closes = record {
             read = record {
               added = s.got ++ element_of v ∷ [];
-              is = rw view' (last_on ∙ after_from _ (then_from _ closes.0));
+              is = rw (view' []) (last_on ∙ after_from _ (then_from _ closes.0));
               pushed = pushed';
               lines = r.keeps.lines ∙ s.lines;
               limit = limit';

@@ -29,15 +29,14 @@ use Rattle.basic_toml_read.proofs.EnoughSteps.{after_field, fields_is, fields_on
 use Rattle.basic_toml_read.proofs.GoesOn.{after, after_from, after_none, after_one, found_from, misses_after, misses_on}
 use Rattle.basic_toml_read.proofs.GoesOn.{then_from}
 use Rattle.basic_toml_read.proofs.LeftAfter.{sign_there, sign_missing}
-use Rattle.basic_toml_read.proofs.LinesGathered.{LinesSoFar, lines_start, lines_more, view_more, joined_rows}
-use Rattle.basic_toml_read.proofs.LinesGathered.{joined_rows_more, level_joined_rows}
+use Rattle.basic_toml_read.proofs.LinesGathered.{LinesSoFar, row_first, lines_start, lines_more, view_more}
 use Rattle.basic_toml_read.proofs.ViewsSeen.{lines_none}
 
 -- the rows of an inline table up to an offset
 pub record FieldsSoFar (bytes : List ℕ) (start level at : ℕ) (old new : Gathered) : Type 0 where
   pub got : Lines
   pub lines : LinesSoFar level old new got
-  pub told : fields_of (text_at bytes start) ≡ after (joined_rows (lines_view got)) (fields_on_of (text_at bytes at))
+  pub told : fields_of (text_at bytes start) ≡ after lines.join (fields_on_of (text_at bytes at))
   pub boundary : IsCharBoundary bytes at
   pub forward : start ≤ at
   pub deep : SameDeep (DeepFields nesting_limit level (text_at bytes at))
@@ -46,7 +45,7 @@ pub record FieldsSoFar (bytes : List ℕ) (start level at : ℕ) (old new : Gath
 
 pub fields_start : (bytes : List ℕ) (start level : ℕ) (old : Gathered) → IsCharBoundary bytes start
     → IsPunctuationEnd 125 bytes start None → FieldsSoFar bytes start level start old old
-unfolding joined_rows
+unfolding lines_start
 fields_start bytes start level old b sign =
     let none = sign_missing 125 (text_at bytes start) sign in
     record {
@@ -91,7 +90,7 @@ module _ {bytes : List ℕ} {start level at : ℕ} {old new : Gathered} (s : Fie
   fields_missing w m =
       misses_after w _ _ (λ rs. nesting_limit < rows_level level rs)
       (s.told ∙ after_from _ (fields_on_is (text_at bytes at)))
-      (λ rs h. omega (arith, h, level_joined_rows level (lines_view s.got) rs))
+      (λ rs h. omega (arith, h, s.lines.high rs))
       (misses_on w (row_of (text_at bytes at)) (after_field fields_on_of) _ _ refl
       (λ r q e h. omega (arith, h, row_level_on level r q e)) m)
 
@@ -101,18 +100,17 @@ module _ {bytes : List ℕ} {start level at : ℕ} {old new : Gathered} (s : Fie
     rest' : after_blanks r.found.rest ≡ text_at bytes after'
     rest' = ap after_blanks r.rest ∙ sym left.left
 
-    told' : fields_of (text_at bytes start) ≡ after (joined_rows (lines_view s.got)) (after_field fields_on_of r.found)
+    told' : fields_of (text_at bytes start) ≡ after s.lines.join (after_field fields_on_of r.found)
     told' = s.told ∙ after_from _ (fields_on_is (text_at bytes at) ∙ then_from _ r.is)
 
     pub fields_more : {next at' : ℕ} → Leaves bytes next at' (after_blanks (text_at bytes next))
         → IsPunctuationEnd 44 bytes after' (Some next) → FieldsSoFar bytes start level at' old new'
+    unfolding lines_more
     fields_more {next = next} later sign = record {
       got = and_lines s.got r.added;
       lines = lines_more s.lines r;
-      told = rw (view_more s.lines r, later.left) (told'
-          ∙ after_from _ (found_from _ _ (ap (char_at 44) rest' ∙ sign_there sign.0))
-          ∙ after_one _ _ _ (fields_on_of (after_blanks (text_at bytes next)))
-          (joined_rows_more (lines_view s.got) r.found.keys r.found.offset r.found.value));
+      told = rw later.left (told' ∙ after_from _ (found_from _ _ (ap (char_at 44) rest' ∙ sign_there sign.0))
+          ∙ after_one _ _ _ (fields_on_of (after_blanks (text_at bytes next))) (λ rs. refl));
       boundary = later.boundary;
       forward = omega (arith, s.forward, r.later, left.forward, sign.2, later.forward);
       deep = then_deep (past_field r left sign later) s.deep;
@@ -122,9 +120,8 @@ module _ {bytes : List ℕ} {start level at : ℕ} {old new : Gathered} (s : Fie
     -- where no comma follows
     module _ (none : IsPunctuationEnd 44 bytes after' None) where
       last_on : fields_of (text_at bytes start)
-          ≡ after (joined_rows (lines_view s.got))
-          (and_then (char_at 125 (text_at bytes after'))
-          (λ s. Some (row r.found.keys r.found.offset r.found.value no_rows, s.1)))
+          ≡ after s.lines.join (and_then (char_at 125 (text_at bytes after'))
+          (λ s. Some (row_first r.found no_rows, s.1)))
       last_on = told' ∙ after_from _
           (found_from _ _ (ap (char_at 44) rest' ∙ sign_missing 44 (text_at bytes after') none)
           ∙ then_from _ (ap (char_at 125) rest'))

@@ -35,13 +35,12 @@ use Rattle.basic_toml_read.proofs.GoesOn.{misses_none, misses_on, then_from}
 use Rattle.basic_toml_read.proofs.StandsIn.{SameDeep, at_deep, same_deep, then_deep, stays_in, then_in}
 use Rattle.basic_toml_read.proofs.StandsIn.{newline_stop, stops_on}
 use Rattle.basic_toml_read.proofs.FurtherOn.{row_stands}
-use Rattle.basic_toml_read.proofs.LinesGathered.{LinesSoFar, lines_start, lines_more, view_more, joined_rows}
-use Rattle.basic_toml_read.proofs.LinesGathered.{joined_rows_more, joined_rows_none, level_joined_rows}
+use Rattle.basic_toml_read.proofs.LinesGathered.{LinesSoFar, row_first, lines_alone, lines_start, lines_more}
 
 pub record RowsSoFar (bytes : List ℕ) (start level at : ℕ) (old new : Gathered) : Type 0 where
   pub got : Lines
   pub lines : LinesSoFar level old new got
-  pub told : rows_of (text_at bytes start) ≡ after (joined_rows (lines_view got)) (rows_of (text_at bytes at))
+  pub told : rows_of (text_at bytes start) ≡ after lines.join (rows_of (text_at bytes at))
   pub boundary : IsCharBoundary bytes at
   pub forward : start ≤ at
   pub gaps : IsGap (text_at bytes start) → IsGap (text_at bytes at) × (lines_of new ≡ lines_of old)
@@ -51,7 +50,7 @@ pub record RowsSoFar (bytes : List ℕ) (start level at : ℕ) (old new : Gather
 
 pub rows_start : (bytes : List ℕ) (start level : ℕ) (old : Gathered) → IsCharBoundary bytes start
     → RowsSoFar bytes start level start old old
-unfolding joined_rows
+unfolding lines_start
 rows_start bytes start level old b = record {
   got = no_lines;
   lines = lines_start level old;
@@ -134,7 +133,7 @@ module _ {bytes : List ℕ} {start level at : ℕ} {old new : Gathered} (s : Row
     added = s.got;
     rest = [];
     is = s.told ∙ after_from _ (ap rows_of (text_end bytes at h) ∙ rows_is_none)
-        ∙ ap (λ (rs : Rows). Some (rs, [])) (joined_rows_none (lines_view s.got));
+        ∙ ap (λ (rs : Rows). Some (rs, [])) (lines_alone s.lines);
     pushed = s.lines.pushed;
     some = s.lines.some;
     elements = s.lines.elements;
@@ -162,7 +161,7 @@ module _ {bytes : List ℕ} {start level at : ℕ} {old new : Gathered} (s : Row
       added = s.got;
       rest = l.first ∷ l.line;
       is = s.told ∙ after_from _ (by_line (Some (front, text_at bytes next)) (sign_there sign.0))
-          ∙ ap (λ (rs : Rows). Some (rs, l.first ∷ l.line)) (joined_rows_none (lines_view s.got));
+          ∙ ap (λ (rs : Rows). Some (rs, l.first ∷ l.line)) (lines_alone s.lines);
       pushed = s.lines.pushed;
       some = s.lines.some;
       elements = s.lines.elements;
@@ -221,7 +220,7 @@ module _ {bytes : List ℕ} {start level at : ℕ} {old new : Gathered} (s : Row
         rows_no_gap g = gap_ends_line (text_at bytes at) goes_on (s.gaps g).0
 
         told' : rows_of (text_at bytes start)
-            ≡ after (joined_rows (lines_view s.got)) (and_then (row_of (text_at bytes front)) (after_row rows_of))
+            ≡ after s.lines.join (and_then (row_of (text_at bytes front)) (after_row rows_of))
         told' = s.told ∙ after_from _ (by_end_of_line None goes_on)
 
         -- a comment that goes on
@@ -252,7 +251,7 @@ module _ {bytes : List ℕ} {start level at : ℕ} {old new : Gathered} (s : Row
             → RowsAnswered bytes start level old new' (Err stop)
         row_stops new' hash stop missed deep hole inside = record {
           read = misses_after stop.why _ _ (λ rs. nesting_limit < rows_level level rs) told'
-              (λ rs h. omega (arith, h, level_joined_rows level (lines_view s.got) rs))
+              (λ rs h. omega (arith, h, s.lines.high rs))
               (misses_on stop.why (row_of (text_at bytes front)) (after_row rows_of) _ _ refl
               (λ r q e h. let (next, next_is, f) = then_some (line_end_at r.rest) _ q e in
               let (rows, rows_is, same) = then_some (rows_of next) _ q f in
@@ -278,8 +277,8 @@ module _ {bytes : List ℕ} {start level at : ℕ} {old new : Gathered} (s : Row
         -- a row
         module _ {new' : Gathered} {after' : ℕ} (r : IsRowRead bytes front level new new' after') where
           by_end : (o : Option Text) → line_end_at (text_at bytes after') ≡ o → rows_of (text_at bytes start)
-              ≡ after (joined_rows (lines_view s.got)) (and_then o (λ next.
-              and_then (rows_of next) (λ rows. Some (row r.found.keys r.found.offset r.found.value rows.0, rows.1))))
+              ≡ after s.lines.join (and_then o (λ next.
+              and_then (rows_of next) (λ rows. Some (row_first r.found rows.0, rows.1))))
           by_end o e = told' ∙ after_from _ (then_from _ r.is ∙ then_from _ (ap line_end_at r.rest ∙ e))
 
           stands : IsRow is_comment (after_blanks (text_at bytes at)) r.found.keys r.found.offset r.found.value
@@ -300,14 +299,14 @@ module _ {bytes : List ℕ} {start level at : ℕ} {old new : Gathered} (s : Row
           }
 
           pub rows_more : (next : ℕ) → EndsLineAt bytes after' (Ok next) → RowsSoFar bytes start level next old new'
+          unfolding lines_more
           rows_more next e =
               let over = line_end_read (text_at bytes after') (text_at bytes next) e.0 in
               record {
                 got = and_lines s.got r.added;
                 lines = lines_more s.lines r;
-                told = rw (view_more s.lines r) (by_end (Some (text_at bytes next)) e.0
-                    ∙ after_one _ _ _ (rows_of (text_at bytes next))
-                    (joined_rows_more (lines_view s.got) r.found.keys r.found.offset r.found.value));
+                told = by_end (Some (text_at bytes next)) e.0
+                    ∙ after_one _ _ _ (rows_of (text_at bytes next)) (λ rs. refl);
                 boundary = e.1;
                 forward = omega (arith, s.forward, l.blanks.forward, r.later, e.2);
                 gaps = λ g. absurd (rows_no_gap g);
