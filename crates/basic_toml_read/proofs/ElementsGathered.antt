@@ -29,7 +29,7 @@ use Rattle.basic_toml_grammar.proofs.Grammar.ReaderIsComplete.{gap}
 use Rattle.basic_toml_read.proofs.StandsIn.{Answered, SameDeep, same_deep, then_deep, stays_in, stops_on, then_in}
 use Rattle.basic_toml_read.proofs.FurtherOn.{past_element, holes_past_element, last_element, unclosed_array}
 use Rattle.basic_toml_read.proofs.EnoughSteps.{after_value, elements_is}
-use Rattle.basic_toml_read.proofs.GoesOn.{after, after_from, after_none, after_one, found_from, misses_after, misses_on}
+use Rattle.basic_toml_read.proofs.GoesOn.{after, after_from, after_none, after_one, first_of, found_from, misses_after}
 use Rattle.basic_toml_read.proofs.GoesOn.{then_from}
 use Rattle.basic_toml_read.proofs.LeftAfter.{sign_there, sign_missing}
 use Rattle.basic_toml_read.proofs.ViewsSeen.{element_seen}
@@ -75,19 +75,6 @@ elements_start bytes start level old b = record {
   holes = stays_in;
 }
 
--- an element's level is one of the array's
-level_on : (l : ℕ) (v : reader.Valued) (r : Elements × Text) → after_value elements_of v ≡ Some r
-    → value_level l v.value ≤ elements_level l r.0
-level_on l v r e =
-    elim (found_some (char_at 44 (gap v.rest)) _ _ r e) [
-      | inl (s, s_is, f) ↦ (let (q, q_is, same) = then_some (elements_of (gap s.1)) _ r f in
-          let there : element v.offset v.value q.0 ≡ r.0 = cc in
-          omega (arith, ap (elements_level l) there))
-      | inr h ↦ (let (s, s_is, same) = then_some (char_at 93 (gap v.rest)) _ r h in
-          let there : element v.offset v.value no_elements ≡ r.0 = cc in
-          omega (arith, ap (elements_level l) there))
-    ]
-
 module _ {bytes : List ℕ} {start level at : ℕ} {old new : Gathered} (s : ElementsSoFar bytes start level at old new)
   where
     -- the closing bracket
@@ -118,10 +105,11 @@ module _ {bytes : List ℕ} {start level at : ℕ} {old new : Gathered} (s : Ele
           → Misses w (value_of (text_at bytes at)) (λ v. nesting_limit < value_level level v.value)
           → Misses w (elements_of (text_at bytes start)) (λ r. nesting_limit < elements_level level r.0)
       elements_missing w m =
-          misses_after w _ _ (λ es. nesting_limit < elements_level level es) by_value
-          (λ es h. omega (arith, h, s.high es))
-          (misses_on w (value_of (text_at bytes at)) (after_value elements_of) _ _ refl
-          (λ v r e h. omega (arith, h, level_on level v r e)) m)
+          misses_after w _ _ _ _ (λ es. nesting_limit < elements_level level es) by_value
+          (λ v r e h. let (es, same) =
+          first_of (char_at 44 (gap v.rest)) (char_at 93 (gap v.rest)) _ (element v.offset v.value) no_elements r e in
+          omega (arith, h, s.high r.0, ap (elements_level level) same))
+          m
 
       -- after a value
       module _ {mid : Gathered} {v : Valued} {after' : ℕ} (r : IsValueRead bytes at level new mid v)
@@ -135,12 +123,6 @@ module _ {bytes : List ℕ} {start level at : ℕ} {old new : Gathered} (s : Ele
         unfolding this
         view' more =
             s.seen (element_of v ∷ more) ∙ ap s.join (rw (element_seen v.offset v.end v.value, r.found.seen) refl)
-
-        high' : (es : Elements) → elements_level level (s.join (this es))
-            ≡ max (elements_level level (elements_view (s.got ++ element_of v ∷ []))) (elements_level level es)
-        unfolding this
-        high' es =
-            omega (arith, ap (elements_level level) (view' []), s.high (this no_elements), s.high (this es))
 
         limit' : elements_level level (elements_view (s.got ++ element_of v ∷ [])) ≤ nesting_limit
         unfolding this
@@ -163,7 +145,7 @@ module _ {bytes : List ℕ} {start level at : ℕ} {old new : Gathered} (s : Ele
           got = s.got ++ element_of v ∷ [];
           join = λ es. s.join (this es);
           seen = λ more. ap elements_view (append_assoc s.got (element_of v ∷ []) more) ∙ view' more;
-          high = high';
+          high = λ es. omega (arith, ap (elements_level level) (view' []), s.high (this no_elements), s.high (this es));
           told = rw later.left (told'
               ∙ after_from _ (found_from _ _ (ap (char_at 44) (sym left.left) ∙ sign_there sign.0))
               ∙ after_one _ _ _ (elements_of (gap (text_at bytes next))) (λ es. refl));

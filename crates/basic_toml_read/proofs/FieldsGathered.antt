@@ -26,7 +26,7 @@ use Rattle.basic_toml_grammar.proofs.Grammar.ReaderIsSound.{found_some}
 use Rattle.basic_toml_read.proofs.StandsIn.{Answered, SameDeep, same_deep, then_deep, stops_on, then_in}
 use Rattle.basic_toml_read.proofs.FurtherOn.{past_field, holes_past_field, last_field, unclosed_fields}
 use Rattle.basic_toml_read.proofs.EnoughSteps.{after_field, fields_is, fields_on_is}
-use Rattle.basic_toml_read.proofs.GoesOn.{after, after_from, after_none, after_one, found_from, misses_after, misses_on}
+use Rattle.basic_toml_read.proofs.GoesOn.{after, after_from, after_none, after_one, first_of, found_from, misses_after}
 use Rattle.basic_toml_read.proofs.GoesOn.{then_from}
 use Rattle.basic_toml_read.proofs.LeftAfter.{sign_there, sign_missing}
 use Rattle.basic_toml_read.proofs.LinesGathered.{LinesSoFar, row_first, lines_start, lines_more, view_more}
@@ -70,29 +70,17 @@ fields_none bytes start level end old sign = record {
   later = omega (arith, sign.2);
 }
 
--- a row's level is one of the table's
-row_level_on : (l : ℕ) (r : reader.Assigned) (rs : Rows × Text) → after_field fields_on_of r ≡ Some rs
-    → row_level l r ≤ rows_level l rs.0
-row_level_on l r rs e =
-    elim (found_some (char_at 44 (after_blanks r.rest)) _ _ rs e) [
-      | inl (s, s_is, f) ↦ (let (q, q_is, same) = then_some (fields_on_of (after_blanks s.1)) _ rs f in
-          let there : row r.keys r.offset r.value q.0 ≡ rs.0 = cc in
-          omega (arith, ap (rows_level l) there))
-      | inr h ↦ (let (s, s_is, same) = then_some (char_at 125 (after_blanks r.rest)) _ rs h in
-          let there : row r.keys r.offset r.value no_rows ≡ rs.0 = cc in
-          omega (arith, ap (rows_level l) there))
-    ]
-
 module _ {bytes : List ℕ} {start level at : ℕ} {old new : Gathered} (s : FieldsSoFar bytes start level at old new) where
   -- no row
   pub fields_missing : (w : Why) → Misses w (row_of (text_at bytes at)) (λ r. nesting_limit < row_level level r)
       → Misses w (fields_of (text_at bytes start)) (λ r. nesting_limit < rows_level level r.0)
   fields_missing w m =
-      misses_after w _ _ (λ rs. nesting_limit < rows_level level rs)
+      misses_after w _ _ _ _ (λ rs. nesting_limit < rows_level level rs)
       (s.told ∙ after_from _ (fields_on_is (text_at bytes at)))
-      (λ rs h. omega (arith, h, s.lines.high rs))
-      (misses_on w (row_of (text_at bytes at)) (after_field fields_on_of) _ _ refl
-      (λ r q e h. omega (arith, h, row_level_on level r q e)) m)
+      (λ r q e h. let blanks = after_blanks r.rest in
+      let (rs, same) = first_of (char_at 44 blanks) (char_at 125 blanks) _ (row_first r) no_rows q e in
+      omega (arith, h, s.lines.high q.0, ap (rows_level level) same))
+      m
 
   -- after a row
   module _ {new' : Gathered} {end after' : ℕ} (r : IsRowRead bytes at level new new' end)

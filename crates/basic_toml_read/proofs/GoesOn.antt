@@ -1,5 +1,5 @@
 -- A reading that goes on from what it finds: what it finds then, and what is missing.
-use Rattle.std.proofs.Common.{◌≡◌, refl, ap, sym, ◌∙◌, subst, Option, Some, None}
+use Rattle.std.proofs.Common.{◌≡◌, ℕ, refl, ap, sym, ◌∙◌, subst, Option, Some, None}
 use Rattle.basic_toml_tokens.specs.Text.{Text}
 use Rattle.basic_toml_grammar.specs.Entering.{and_then}
 use Rattle.basic_toml_grammar.specs.Reader.{if_found}
@@ -69,9 +69,19 @@ after_one join one all None h = refl
 after_one join one all (Some r) h = ap (λ x. Some (x, r.1)) (h r.0)
 
 -- what is missing after other things is missing from them on
-pub misses_after : {A : Type 0} {whole : Option (A × Text)} (w : Why) (join : A → A) (o : Option (A × Text))
-    (High : A → Type 0) → whole ≡ after join o → ((x : A) → High x → High (join x)) → Misses w o (λ r. High r.0)
-    → Misses w whole (λ r. High r.0)
+pub misses_after : {A B : Type 0} {whole : Option (A × Text)} (w : Why) (join : A → A) (o : Option B)
+    (on : B → Option (A × Text)) (P : B → Type 0) (High : A → Type 0) → whole ≡ after join (and_then o on)
+    → ((x : B) (y : A × Text) → on x ≡ Some y → P x → High (join y.0)) → Misses w o P → Misses w whole (λ r. High r.0)
 unfolding after
-misses_after w join o High same high m =
-    misses_on w o _ _ _ same (λ r y e h. let joined : join r.0 ≡ y.0 = cc in subst High joined (high r.0 h)) m
+misses_after w join o on P High same high m =
+    misses_on w (and_then o on) _ (λ r. High (join r.0)) _ same
+    (λ r y e h. let joined : join r.0 ≡ y.0 = cc in subst High joined h) (misses_on w o on P _ refl high m)
+
+-- one thing is the first of those that are found, whether more follow it or none
+pub first_of : {A : Type 0} (o o' : Option (ℕ × Text)) (more : ℕ × Text → Option (A × Text)) (one : A → A) (none : A)
+    (r : A × Text) → if_found o (λ s. and_then (more s) (λ r. Some (one r.0, r.1)))
+    (and_then o' (λ s. Some (one none, s.1))) ≡ Some r
+    → (others : A) × (one others ≡ r.0)
+first_of (Some s) o' more one none r e = let (q, q_is, same) = then_some (more s) _ r e in (q.0, cc)
+first_of None (Some s) more one none r e = (none, cc)
+first_of None None more one none r e = cc

@@ -34,7 +34,7 @@ use Rattle.basic_toml_grammar.proofs.Grammar.ReaderIsComplete.{key_found}
 use Rattle.basic_toml_read.proofs.StandsIn.{SameDeep, same_deep, then_deep}
 use Rattle.basic_toml_read.proofs.FurtherOn.{past_key, hole_past_key}
 use Rattle.basic_toml_read.proofs.EnoughSteps.{keys_is}
-use Rattle.basic_toml_read.proofs.GoesOn.{after, after_from, after_none, after_one, found_from, then_from}
+use Rattle.basic_toml_read.proofs.GoesOn.{after, after_from, after_none, after_one, first_of, found_from, then_from}
 use Rattle.basic_toml_read.proofs.LeftAfter.{sign_there, sign_missing}
 
 -- what `?` answers at a stop
@@ -91,12 +91,8 @@ no_key_deep none (later_key h k s d) = let z : None ≡ Some _ = sym none ∙ ke
 some_keys : (text : Text) (keys : List Key × Text) → keys_of text ≡ Some keys → 0 < length keys.0
 some_keys text keys e =
     let (k, k_is, f) = then_some (key_at text) _ keys (sym (keys_is text) ∙ e) in
-    elim (found_some (char_at 46 (after_blanks k.1)) _ _ keys f) [
-      | inl (t, t_is, g) ↦ (let (more, more_is, same) = then_some (keys_of (after_blanks t.1)) _ keys g in
-          let there : k.0 ∷ more.0 ≡ keys.0 = cc in
-          omega (arith, ap length there))
-      | inr h ↦ (let there : k.0 ∷ [] ≡ keys.0 = cc in omega (arith, ap length there))
-    ]
+    let (more, there) = first_of (char_at 46 (after_blanks k.1)) (Some (0, k.1)) _ (λ ks. k.0 ∷ ks) [] keys f in
+    omega (arith, ap length there)
 
 module _ {bytes : List ℕ} {at first offset level : ℕ} {front : List Key}
     (s : KeysTold bytes at first offset level front) where

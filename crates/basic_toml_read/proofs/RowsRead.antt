@@ -250,14 +250,12 @@ module _ {bytes : List ℕ} {start level at : ℕ} {old new : Gathered} (s : Row
             → InHole {A = ℕ} (in_row (text_at bytes front) Hole.after_line) bytes (Err stop) → StopsInside bytes stop
             → RowsAnswered bytes start level old new' (Err stop)
         row_stops new' hash stop missed deep hole inside = record {
-          read = misses_after stop.why _ _ (λ rs. nesting_limit < rows_level level rs) told'
-              (λ rs h. omega (arith, h, s.lines.high rs))
-              (misses_on stop.why (row_of (text_at bytes front)) (after_row rows_of) _ _ refl
+          read = misses_after stop.why _ _ _ _ (λ rs. nesting_limit < rows_level level rs) told'
               (λ r q e h. let (next, next_is, f) = then_some (line_end_at r.rest) _ q e in
               let (rows, rows_is, same) = then_some (rows_of next) _ q f in
-              let there : row r.keys r.offset r.value rows.0 ≡ q.0 = cc in
-              omega (arith, h, ap (rows_level level) there))
-              missed);
+              let there : row_first r rows.0 ≡ q.0 = cc in
+              omega (arith, h, s.lines.high q.0, ap (rows_level level) there))
+              missed;
           inside = inside;
           gaps = λ g. absurd (rows_no_gap g);
           deep = at_deep stop.why stop.at _ missed (λ p d. s.deep.leads p (this_row (rw l.blanks.left at d)))
