@@ -27,6 +27,7 @@ use Rattle.basic_toml_grammar.proofs.Grammar.StringsAreRead.{then_some}
 use Rattle.basic_toml_grammar.proofs.Grammar.ReaderIsSound.{found_some}
 use Rattle.basic_toml_grammar.proofs.Grammar.ReaderIsComplete.{gap}
 use Rattle.basic_toml_read.proofs.StandsIn.{Answered, SameDeep, same_deep, then_deep, stays_in, stops_on, then_in}
+use Rattle.basic_toml_read.proofs.StandsIn.{without_stop}
 use Rattle.basic_toml_read.proofs.FurtherOn.{past_element, holes_past_element, last_element, unclosed_array}
 use Rattle.basic_toml_read.proofs.EnoughSteps.{after_value, elements_is}
 use Rattle.basic_toml_read.proofs.GoesOn.{after, after_from, after_none, after_one, first_of, found_from, misses_after}
@@ -171,20 +172,15 @@ module _ {bytes : List ℕ} {start level at : ℕ} {old new : Gathered} (s : Ele
               → Answered bytes (ReadsElements bytes start level old (with_elements mid elements))
               (DeepElements nesting_limit level (text_at bytes start)) (in_elements (text_at bytes start)) result
           unfolding after
-          elements_close (Ok close) closes = record {
-            read = record {
-              added = s.got ++ element_of v ∷ [];
-              is = rw (view' []) (last_on ∙ after_from _ (then_from _ closes.0));
-              pushed = pushed';
-              lines = r.keeps.lines ∙ s.lines;
-              limit = limit';
-              boundary = closes.1;
-              later = omega (arith, s.forward, r.found.later, left.forward, closes.2);
-            };
-            inside = tt;
-            deep = tt;
-            hole = tt;
-          }
+          elements_close (Ok close) closes = without_stop (record {
+            added = s.got ++ element_of v ∷ [];
+            is = rw (view' []) (last_on ∙ after_from _ (then_from _ closes.0));
+            pushed = pushed';
+            lines = r.keeps.lines ∙ s.lines;
+            limit = limit';
+            boundary = closes.1;
+            later = omega (arith, s.forward, r.found.later, left.forward, closes.2);
+          })
           elements_close (Err stop) closes = rw closes.1 (record {
             read = last_on ∙ after_from _ (then_from _ closes.0);
             inside = inr left.boundary;

@@ -23,7 +23,7 @@ use Rattle.basic_toml_read.specs.Gathers.{AreFieldsRead, ClosesAt, ReadsFields}
 use Rattle.basic_toml_read.specs.StopsReached.{LeadsTo, in_fields, in_fields_on}
 use Rattle.basic_toml_grammar.proofs.Grammar.StringsAreRead.{then_some}
 use Rattle.basic_toml_grammar.proofs.Grammar.ReaderIsSound.{found_some}
-use Rattle.basic_toml_read.proofs.StandsIn.{Answered, SameDeep, same_deep, then_deep, stops_on, then_in}
+use Rattle.basic_toml_read.proofs.StandsIn.{Answered, without_stop, SameDeep, same_deep, then_deep, stops_on, then_in}
 use Rattle.basic_toml_read.proofs.FurtherOn.{past_field, holes_past_field, last_field, unclosed_fields}
 use Rattle.basic_toml_read.proofs.EnoughSteps.{after_field, fields_is, fields_on_is}
 use Rattle.basic_toml_read.proofs.GoesOn.{after, after_from, after_none, after_one, first_of, found_from, misses_after}
@@ -120,20 +120,15 @@ module _ {bytes : List ℕ} {start level at : ℕ} {old new : Gathered} (s : Fie
       unfolding after
       fields_close (Ok close) closes =
           let lines = lines_more s.lines r in
-          record {
-            read = record {
-              added = and_lines s.got r.added;
-              is = rw (view_more s.lines r) (last_on ∙ after_from _ (then_from _ closes.0));
-              pushed = lines.pushed;
-              elements = lines.elements;
-              limit = lines.limit;
-              boundary = closes.1;
-              later = omega (arith, s.forward, r.later, left.forward, closes.2);
-            };
-            inside = tt;
-            deep = tt;
-            hole = tt;
-          }
+          without_stop (record {
+            added = and_lines s.got r.added;
+            is = rw (view_more s.lines r) (last_on ∙ after_from _ (then_from _ closes.0));
+            pushed = lines.pushed;
+            elements = lines.elements;
+            limit = lines.limit;
+            boundary = closes.1;
+            later = omega (arith, s.forward, r.later, left.forward, closes.2);
+          })
       fields_close (Err stop) closes = rw closes.1 (record {
         read = last_on ∙ after_from _ (then_from _ closes.0);
         inside = inr left.boundary;

@@ -1,26 +1,30 @@
 -- Arrays and inline tables: as values, by what stands in their brackets, and whole.
-use Rattle.std.proofs.Common.{inl, inr, ◌≡◌, ℕ, ◌+◌, ◌<◌, ◌≤◌, List, ◌++◌, length, drop, take, refl, ap, sym, ◌∙◌}
-use Rattle.std.proofs.Common.{arith, Some, None, Result, Ok, Err, Vec, Global, IfErr}
+use Rattle.std.proofs.Common.{◌≡◌, ℕ, ◌+◌, ◌<◌, ◌≤◌, List, ◌++◌, length, drop, take, refl, ap, sym, ◌∙◌}
+use Rattle.std.proofs.Common.{arith, Some, None, Option, Result, Ok, Err, Vec, Global, subst}
 use Rattle.std.proofs.Math.Seq.{drop-append_seam, take-append_seam}
+use Rattle.std.specs.Str.{IsCharBoundary}
 use Rattle.basic_toml_value.specs.Nesting.{nesting_limit}
-use Rattle.basic_toml_tokens.specs.Text.{text_at, after_blanks}
+use Rattle.basic_toml_tokens.specs.Text.{Text, text_at, after_blanks}
 use Rattle.basic_toml_tokens.specs.Punctuation.{IsPunctuationEnd}
 use Rattle.basic_toml_grammar.specs.Sections.{Raw}
 use Rattle.basic_toml_grammar.specs.Levels.{value_level}
+use Rattle.basic_toml_grammar.specs.Entering.{and_then}
+use Rattle.basic_toml_grammar.specs.Reader as reader
 use Rattle.basic_toml_grammar.specs.DeepStops.{DeepArray, DeepInline, DeepValue, array, inline}
 use Rattle.basic_toml_grammar.specs.Holes.{Hole, HoleInValue}
 use Rattle.basic_toml_explain.specs.declared.stop.Stop.{Stop}
-use Rattle.basic_toml_explain.specs.Stop.{StopsInside}
+use Rattle.basic_toml_explain.specs.declared.stop.Why.{Why}
 use Rattle.basic_toml_read.specs.declared.section.Raw as code
 use Rattle.basic_toml_read.specs.declared.section.Element.{Element}
 use Rattle.basic_toml_read.specs.declared.scalar.Valued.{Valued}
 use Rattle.basic_toml_read.specs.declared.values.Gathered.{Gathered}
-use Rattle.basic_toml_read.specs.FrontOf.{elements_of, fields_of}
+use Rattle.basic_toml_read.specs.FrontOf.{elements_of, fields_of, value_of}
 use Rattle.basic_toml_read.specs.AtPlace.{Leaves}
-use Rattle.basic_toml_read.specs.SectionView.{elements_view}
+use Rattle.basic_toml_read.specs.SectionView.{elements_view, raw_of}
 use Rattle.basic_toml_read.specs.Gathers.{Lines, lines_view, IsTableTaken, AreElementsRead, IsArrayRead, AreFieldsRead}
-use Rattle.basic_toml_read.specs.Gathers.{IsInlineRead, ReadsValue, ReadsArray, ReadsInline}
-use Rattle.basic_toml_read.specs.StopsReached.{in_value, in_elements, in_fields, IfDeep, InHole}
+use Rattle.basic_toml_read.specs.Gathers.{IsInlineRead, IsValueRead, Keeps, ReadsValue, ReadsArray, ReadsInline}
+use Rattle.basic_toml_read.specs.StopsAt.{Misses}
+use Rattle.basic_toml_read.specs.StopsReached.{in_value, in_elements, in_fields}
 use Rattle.basic_toml_grammar.proofs.Grammar.ReaderIsComplete.{gap}
 use Rattle.basic_toml_grammar.proofs.Nesting.WithinTheLimit as within
 use Rattle.basic_toml_read.proofs.EnoughSteps.{value_is}
@@ -28,87 +32,80 @@ use Rattle.basic_toml_read.proofs.LeftAfter.{sign_there, sign_missing}
 use Rattle.basic_toml_read.proofs.ViewsSeen.{array_of}
 use Rattle.basic_toml_read.proofs.GoesOn.{found_from, misses_on, then_from}
 use Rattle.basic_toml_read.proofs.ElementsGathered.{with_elements}
-use Rattle.basic_toml_read.proofs.StandsIn.{Answered, at_deep, stops_on}
+use Rattle.basic_toml_read.proofs.StandsIn.{Answered, stop_in_whole, without_stop}
 
--- an array
-pub array_answered : (bytes : List ℕ) (at next level : ℕ) (end : Hole) (old new : Gathered)
-    (result : Result Valued Stop) → IsPunctuationEnd 91 bytes at (Some next)
-    → ReadsArray bytes at next (level + 1) old new result
-    → IfDeep (DeepArray nesting_limit (level + 1) at (text_at bytes next)) result
-    → InHole (in_elements (gap (text_at bytes next))) bytes result → IfErr result (λ stop. StopsInside bytes stop)
-    → Answered bytes (ReadsValue bytes at level old new) (DeepValue nesting_limit level (text_at bytes at))
-    (in_value (text_at bytes at) end) result
-array_answered bytes at next level end old new (Ok v) sign a deep hole inside = record {
-  read = record {
+-- what stands in brackets at an offset, and the value that it makes
+module _ (bytes : List ℕ) (at level : ℕ) {A : Type 0} (make : A → Raw) (o : Option (A × Text))
+    (is : value_of (text_at bytes at)
+    ≡ and_then o (λ r. Some (record { offset = at; value = make r.0; rest = r.1 }))) where
+  made : {old new : Gathered} {v : Valued} (x : A) → raw_of v.value ≡ make x → o ≡ Some (x, text_at bytes v.end)
+      → v.offset ≡ at → value_level level (make x) ≤ nesting_limit → Keeps old new → IsCharBoundary bytes v.end
+      → at < v.end → IsValueRead bytes at level old new v
+  made x seen found offset_is limit keeps boundary later = record {
     found = record {
-      raw = Raw.array a.elements;
-      seen = a.seen;
-      is = rw a.offset_is (value_is (text_at bytes at) ∙ found_from _ _ (sign_there sign.0) ∙ then_from _ a.is);
-      boundary = a.boundary;
-      later = omega (arith, sign.2, a.later);
+      raw = make x;
+      seen = seen;
+      is = rw offset_is (is ∙ then_from _ found);
+      boundary = boundary;
+      later = later;
     };
-    limit = omega (arith, a.limit);
-    keeps = a.keeps;
-  };
-  inside = tt;
-  deep = tt;
-  hole = tt;
-}
-array_answered bytes at next level end old new (Err stop) sign m deep hole inside = record {
-  read = misses_on stop.why (elements_of (gap (text_at bytes next))) _ _ _
-      (value_is (text_at bytes at) ∙ found_from _ _ (sign_there sign.0))
-      (λ r y f h. let same : record { offset = at; value = Raw.array r.0; rest = r.1 } ≡ y = cc in
-      let high : nesting_limit < value_level level (Raw.array r.0) =
-      elim h [ inl g ↦ omega arith | inr g ↦ omega arith ] in
-      rw (← same) high)
-      m;
-  inside = inside;
-  deep = at_deep stop.why stop.at _ m (λ p d. array sign.0 d) (λ none p d. within.at_bracket sign.0 d) deep;
-  hole = stops_on {outer = in_value (text_at bytes at) end}
-      (record { on = λ h at d. HoleInValue.array sign.0 d; same = λ at d. refl }) stop.why (text_at bytes stop.at) hole;
-}
+    limit = limit;
+    keeps = keeps;
+  }
 
--- an inline table
-pub inline_answered : (bytes : List ℕ) (at next level : ℕ) (end : Hole) (old new : Gathered)
-    (result : Result Valued Stop) → IsPunctuationEnd 91 bytes at None → IsPunctuationEnd 123 bytes at (Some next)
-    → ReadsInline bytes at next (level + 1) old new result
-    → IfDeep (DeepInline nesting_limit (level + 1) at (text_at bytes next)) result
-    → InHole (in_fields (after_blanks (text_at bytes next))) bytes result
-    → IfErr result (λ stop. StopsInside bytes stop)
-    → Answered bytes (ReadsValue bytes at level old new) (DeepValue nesting_limit level (text_at bytes at))
-    (in_value (text_at bytes at) end) result
-inline_answered bytes at next level end old new (Ok v) none sign a deep hole inside = record {
-  read = record {
-    found = record {
-      raw = Raw.inline a.rows;
-      seen = a.seen;
-      is = rw a.offset_is (value_is (text_at bytes at) ∙ found_from _ _ (sign_missing 91 (text_at bytes at) none)
-          ∙ found_from _ _ (sign_there sign.0) ∙ then_from _ a.is);
-      boundary = a.boundary;
-      later = omega (arith, sign.2, a.later);
-    };
-    limit = omega (arith, a.limit);
-    keeps = a.keeps;
-  };
-  inside = tt;
-  deep = tt;
-  hole = tt;
-}
-inline_answered bytes at next level end old new (Err stop) none sign m deep hole inside = record {
-  read = misses_on stop.why (fields_of (after_blanks (text_at bytes next))) _ _ _
-      (value_is (text_at bytes at) ∙ found_from _ _ (sign_missing 91 (text_at bytes at) none)
-      ∙ found_from _ _ (sign_there sign.0))
-      (λ r y f h. let same : record { offset = at; value = Raw.inline r.0; rest = r.1 } ≡ y = cc in
-      let high : nesting_limit < value_level level (Raw.inline r.0) =
-      elim h [ inl g ↦ omega arith | inr g ↦ omega arith ] in
-      rw (← same) high)
-      m;
-  inside = inside;
-  deep = at_deep stop.why stop.at _ m (λ p d. inline sign.0 d) (λ none p d. within.at_brace sign.0 d) deep;
-  hole = stops_on {outer = in_value (text_at bytes at) end}
-      (record { on = λ h at d. HoleInValue.inline sign.0 d; same = λ at d. refl }) stop.why (text_at bytes stop.at)
-      hole;
-}
+  none_made : (w : Why) (High : A → Type 0) → ((x : A) → High x → nesting_limit < value_level level (make x))
+      → Misses w o (λ r. High r.0)
+      → Misses w (value_of (text_at bytes at)) (λ v. nesting_limit < value_level level v.value)
+  none_made w High high m =
+      misses_on w o _ _ _ is
+      (λ r v f h. let same : record { offset = at; value = make r.0; rest = r.1 } ≡ v = cc in
+      subst (λ (v : reader.Valued). nesting_limit < value_level level v.value) same (high r.0 h))
+      m
+
+module _ (bytes : List ℕ) (at next level : ℕ) (end : Hole) (old new : Gathered) where
+  abbrev pub ValueAnswered : Result Valued Stop → Type 0
+  ValueAnswered = Answered bytes (ReadsValue bytes at level old new) (DeepValue nesting_limit level (text_at bytes at))
+      (in_value (text_at bytes at) end)
+
+  -- an array
+  module _ (sign : IsPunctuationEnd 91 bytes at (Some next)) where
+    array_is : value_of (text_at bytes at) ≡ and_then (elements_of (gap (text_at bytes next)))
+        (λ r. Some (record { offset = at; value = Raw.array r.0; rest = r.1 }))
+    array_is = value_is (text_at bytes at) ∙ found_from _ _ (sign_there sign.0)
+
+    pub array_answered : (result : Result Valued Stop) → Answered bytes (ReadsArray bytes at next (level + 1) old new)
+        (DeepArray nesting_limit (level + 1) at (text_at bytes next)) (in_elements (gap (text_at bytes next))) result
+        → ValueAnswered result
+    array_answered (Ok v) e =
+        let a = e.read in
+        without_stop (made _ _ _ Raw.array _ array_is a.elements a.seen a.is a.offset_is (omega (arith, a.limit))
+        a.keeps a.boundary (omega (arith, sign.2, a.later)))
+    array_answered (Err stop) e =
+        stop_in_whole {outer = in_value (text_at bytes at) end} _ _ _ _ stop e
+        (none_made _ _ _ Raw.array _ array_is stop.why _ (λ es h. grind (arith, h)) e.read) (λ p d. array sign.0 d)
+        (λ none p d. within.at_bracket sign.0 d)
+        (record { on = λ h at d. HoleInValue.array sign.0 d; same = λ at d. refl })
+
+  -- an inline table
+  module _ (none : IsPunctuationEnd 91 bytes at None) (sign : IsPunctuationEnd 123 bytes at (Some next)) where
+    inline_is : value_of (text_at bytes at) ≡ and_then (fields_of (after_blanks (text_at bytes next)))
+        (λ r. Some (record { offset = at; value = Raw.inline r.0; rest = r.1 }))
+    inline_is = value_is (text_at bytes at) ∙ found_from _ _ (sign_missing 91 (text_at bytes at) none)
+        ∙ found_from _ _ (sign_there sign.0)
+
+    pub inline_answered : (result : Result Valued Stop) → Answered bytes (ReadsInline bytes at next (level + 1) old new)
+        (DeepInline nesting_limit (level + 1) at (text_at bytes next)) (in_fields (after_blanks (text_at bytes next)))
+        result
+        → ValueAnswered result
+    inline_answered (Ok v) e =
+        let a = e.read in
+        without_stop (made _ _ _ Raw.inline _ inline_is a.rows a.seen a.is a.offset_is (omega (arith, a.limit)) a.keeps
+        a.boundary (omega (arith, sign.2, a.later)))
+    inline_answered (Err stop) e =
+        stop_in_whole {outer = in_value (text_at bytes at) end} _ _ _ _ stop e
+        (none_made _ _ _ Raw.inline _ inline_is stop.why _ (λ rs h. grind (arith, h)) e.read)
+        (λ p d. inline sign.0 d) (λ none p d. within.at_brace sign.0 d)
+        (record { on = λ h at d. HoleInValue.inline sign.0 d; same = λ at d. refl })
 
 -- what was added to items stands behind the old ones
 added_to : {A : Type 0} {new : List A} {n : ℕ} (old added : List A) → n ≡ length old → new ≡ old ++ added

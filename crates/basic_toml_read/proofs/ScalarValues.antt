@@ -30,7 +30,7 @@ use Rattle.basic_toml_read.specs.StopsAt.{IsValued, ReadsStringAt, ReadsWordAt, 
 use Rattle.basic_toml_read.specs.StopsReached.{in_value}
 use Rattle.basic_toml_grammar.proofs.Grammar.StringsAreRead.{then_some}
 use Rattle.basic_toml_grammar.proofs.Nesting.WithinTheLimit as within
-use Rattle.basic_toml_read.proofs.StandsIn.{Answered}
+use Rattle.basic_toml_read.proofs.StandsIn.{Answered, without_stop}
 use Rattle.basic_toml_read.proofs.EnoughSteps.{value_is}
 use Rattle.basic_toml_read.proofs.GoesOn.{found_from, then_from}
 use Rattle.basic_toml_read.proofs.LeftAfter.{sign_missing}
@@ -108,12 +108,8 @@ module _ (bytes : List ℕ) (at level : ℕ) (end : End) (old : Gathered) (brack
       → IfErr result (λ stop. StopsInside bytes stop)
       → Answered bytes (ReadsValue bytes at level old old) (DeepValue nesting_limit level (text_at bytes at))
       (in_value (text_at bytes at) (hole_behind end)) result
-  string_answered (Ok v) no_word empty f inside = record {
-    read = scalar_read f (scalar_by None no_word ∙ f.is) (string_level level (text_at bytes at) _ f.is);
-    inside = tt;
-    deep = tt;
-    hole = tt;
-  }
+  string_answered (Ok v) no_word empty f inside =
+      without_stop (scalar_read f (scalar_by None no_word ∙ f.is) (string_level level (text_at bytes at) _ f.is))
   string_answered (Err stop) no_word empty f inside = go stop.why stop.at f.0 f.1 inside
     where
       go : (w : Why) (p : ℕ) → MissesString w (text_at bytes at) → (w ≡ why.Value → p ≡ at)
@@ -131,12 +127,8 @@ module _ (bytes : List ℕ) (at level : ℕ) (end : End) (old : Gathered) (brack
       → IfErr result (WantsEnd end) → IfErr result (λ stop. StopsInside bytes stop)
       → Answered bytes (ReadsValue bytes at level old old) (DeepValue nesting_limit level (text_at bytes at))
       (in_value (text_at bytes at) (hole_behind end)) result
-  word_answered (Ok v) no_string f wants inside = record {
-    read = scalar_read f (scalar_by _ f.is) (word_level level (text_at bytes at) _ f.is);
-    inside = tt;
-    deep = tt;
-    hole = tt;
-  }
+  word_answered (Ok v) no_string f wants inside =
+      without_stop (scalar_read f (scalar_by _ f.is) (word_level level (text_at bytes at) _ f.is))
   word_answered (Err stop) no_string f wants inside = go stop.why stop.at f.0 f.1 wants inside
     where
       missed : word_at (text_at bytes at) ≡ None → value_of (text_at bytes at) ≡ None

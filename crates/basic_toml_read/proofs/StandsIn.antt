@@ -25,6 +25,11 @@ Answered bytes Reads IsDeep holes result = record {
   hole : InHole holes bytes result;
 }
 
+-- what is read, and no stop
+pub without_stop : {Read : Type 0} → Read
+    → record { read : Read; inside : Unit {0}; deep : Unit {0}; hole : Unit {0} }
+without_stop read = record { read = read; inside = tt; deep = tt; hole = tt }
+
 -- what `?` answers at a stop
 pub is_err : {A : Type 0} {result : Result A Stop} {stop : Stop} → IsErrAnd result (λ s. s ≡ stop)
     → result ≡ Err stop

@@ -129,16 +129,14 @@ row-returns-clause-read t c =
 -- a value
 pub value-returns-in-Some : goal.value-returns-in-Some
 value-returns-in-Some t c =
-    let r = c.array in
-    array_answered c.args.text.now c.args.at c.in-Some.next c.args.level (hole_behind c.args.end)
-    c.args.self.now r.new.self r.result c.in-Some.ensures r.ensures.read r.ensures.deep r.ensures.hole r.ensures.inside
+    array_answered c.args.text.now c.args.at c.in-Some.next c.args.level (hole_behind c.args.end) c.args.self.now
+    c.array.new.self c.in-Some.ensures c.array.result c.array.ensures
 
 pub value-returns-in-Some-after_punctuation : goal.value-returns-in-Some-after_punctuation
 value-returns-in-Some-after_punctuation t c =
-    let r = c.inline in
-    inline_answered c.args.text.now c.args.at c.in-Some-after_punctuation.next c.args.level
-    (hole_behind c.args.end) c.args.self.now r.new.self r.result c.in_default.ensures
-    c.in-Some-after_punctuation.ensures r.ensures.read r.ensures.deep r.ensures.hole r.ensures.inside
+    inline_answered c.args.text.now c.args.at c.in-Some-after_punctuation.next c.args.level (hole_behind c.args.end)
+    c.args.self.now c.inline.new.self c.in_default.ensures c.in-Some-after_punctuation.ensures c.inline.result
+    c.inline.ensures
 
 pub value-returns-then-begins_string : goal.value-returns-then-begins_string
 value-returns-then-begins_string t c =
