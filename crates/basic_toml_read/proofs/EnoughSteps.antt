@@ -1,7 +1,7 @@
 -- What stands at the front of a text does not depend on the bound on the steps, where it is large enough. So it is told
 -- by what stands at the front of shorter texts.
-use Rattle.std.proofs.Common.{◌≡◌, ℕ, suc, ◌+◌, ◌*◌, ◌<◌, ◌≤◌, true, false, [], ◌∷◌, length, refl, ◌∙◌}
-use Rattle.std.proofs.Common.{arith, List, Option, Some}
+use Rattle.std.proofs.Common.{◌≡◌, ℕ, suc, ◌+◌, ◌*◌, ◌<◌, ◌≤◌, true, false, [], ◌∷◌, length, refl, ap, sym}
+use Rattle.std.proofs.Common.{◌∙◌, arith, List, Option, Some, None}
 use Rattle.std.specs.Option.{option_or}
 use Rattle.basic_toml_tokens.specs.Text.{Text, after_blanks}
 use Rattle.basic_toml_grammar.specs.Sections.{Key, Raw, Elements, Rows, Section, no_elements, element, no_rows, row}
@@ -18,6 +18,7 @@ use Rattle.basic_toml_grammar.proofs.Grammar.ReaderIsSound.{line_end_read, rows_
 use Rattle.basic_toml_grammar.proofs.Grammar.ReaderIsComplete.{key_shorter, keys_shorter, blanks_length}
 use Rattle.basic_toml_grammar.proofs.Grammar.ReaderIsComplete.{shorter_after_blanks, gap, gap_length, shorter_after_gap}
 use Rattle.basic_toml_grammar.proofs.Grammar.ReaderIsComplete.{value_shorter, row_shorter, ends_shorter, line_shorter}
+use Rattle.basic_toml_grammar.proofs.Grammar.ReaderIsComplete.{value_found, row_found, rows_found, header_found}
 use Rattle.basic_toml_grammar.proofs.Grammar.ReaderIsComplete.{header_shorter, rows_shorter}
 use Rattle.basic_toml_read.proofs.GoesOn.{then_alike, found_alike, then_from}
 
@@ -47,15 +48,6 @@ keys_by more text = and_then (key_at text) (λ k.
     if_found (char_at 46 (after_blanks k.1))
     (λ s. and_then (more (after_blanks s.1)) (λ keys. Some (k.0 ∷ keys.0, keys.1))) (Some (k.0 ∷ [], k.1)))
 
-abbrev pub value_by : (Text → Option (Elements × Text)) → (Text → Option (Rows × Text)) → Text → Option Valued
-value_by elements fields text =
-    if_found (char_at 91 text)
-    (λ s. and_then (elements (gap s.1)) (λ r. Some (record { offset = s.0; value = Raw.array r.0; rest = r.1 })))
-    (if_found (char_at 123 text)
-    (λ s. and_then (fields (after_blanks s.1))
-    (λ r. Some (record { offset = s.0; value = Raw.inline r.0; rest = r.1 })))
-    (option_or (word_at text) (string_value_at text)))
-
 -- after a value in an array, after a row of an inline table, and after one in a line
 abbrev pub after_value : (Text → Option (Elements × Text)) → Valued → Option (Elements × Text)
 after_value more v = if_found (char_at 44 (gap v.rest))
@@ -78,26 +70,6 @@ elements_by value more text =
 abbrev pub fields_on_by : (Text → Option Assigned) → (Text → Option (Rows × Text)) → Text → Option (Rows × Text)
 fields_on_by row_there more text = and_then (row_there text) (after_field more)
 
-abbrev pub row_by : (Text → Option (List Key × Text)) → (Text → Option Valued) → Text → Option Assigned
-row_by keys value text = and_then (keys text) (λ keys. and_then (char_at 61 (after_blanks keys.1)) (λ s.
-    and_then (value (after_blanks s.1))
-    (λ v. Some (record { keys = keys.0; offset = v.offset; value = v.value; rest = v.rest }))))
-
-abbrev pub rows_by : (Text → Option Assigned) → (Text → Option (Rows × Text)) → ℕ × ℕ → Text → Option (Rows × Text)
-rows_by row_there more x text =
-    if_found (char_at 91 (after_blanks (x ∷ text))) (λ s. Some (no_rows, x ∷ text))
-    (if_found (line_end_at (x ∷ text)) (λ next. more next)
-    (and_then (row_there (after_blanks (x ∷ text))) (after_row more)))
-
-abbrev pub header_by : (Text → Option (List Key × Text)) → Text → Option Headed
-header_by keys text = and_then (char_at 91 text) (λ s.
-    if_found (char_at 91 s.1)
-    (λ t. and_then (keys (after_blanks t.1))
-    (λ keys. and_then (char_at 93 (after_blanks keys.1)) (λ close. and_then (char_at 93 close.1) (λ last.
-    Some (record { offset = s.0; keys = keys.0; is_array = true; rest = last.1 })))))
-    (and_then (keys (after_blanks s.1)) (λ keys. and_then (char_at 93 (after_blanks keys.1)) (λ close.
-    Some (record { offset = s.0; keys = keys.0; is_array = false; rest = close.1 })))))
-
 abbrev pub sections_by : (Text → Option Headed) → (Text → Option (Rows × Text)) → (Text → Option (List Section)) → Text
     → Option (List Section)
 sections_by header rows more text =
@@ -105,23 +77,13 @@ sections_by header rows more text =
     and_then (rows next) (λ rows. and_then (more rows.1) (λ sections.
     Some (record { at = h.offset; header = h.keys; is_array = h.is_array; rows = rows.0 } ∷ sections)))))
 
--- a step of each reading
+-- a step of a reading that repeats
 keys_step : (n : ℕ) (more : Text → Option (List Key × Text)) (text : Text) → SameBelow text (keys_at n) more
     → keys_at (suc n) text ≡ keys_by more text
 keys_step n more text h =
     then_alike (key_at text) _ _ (λ key e. found_alike (char_at 46 (after_blanks key.1)) _ _ _ _
     (λ s f. then_from _ (h (after_blanks s.1)
     (omega (arith, key_shorter (key_read text key e), sign_after_blanks 46 key.1 s f, blanks_length s.1)))) (λ _. refl))
-
-value_step : (n : ℕ) (elements : Text → Option (Elements × Text)) (fields : Text → Option (Rows × Text)) (text : Text)
-    → SameBelow text (elements_at n) elements → SameBelow text (fields_at n) fields
-    → value_at (suc n) text ≡ value_by elements fields text
-value_step n elements fields text h k =
-    found_alike (char_at 91 text) _ _ _ _
-    (λ s e. then_from _ (h (gap s.1) (omega (arith, sign_shorter 91 text s e, gap_length s.1))))
-    (λ _. found_alike (char_at 123 text) _ _ _ _
-    (λ s e. then_from _ (k (after_blanks s.1) (omega (arith, sign_shorter 123 text s e, blanks_length s.1))))
-    (λ _. refl))
 
 elements_step : (n : ℕ) (value : Text → Option Valued) (more : Text → Option (Elements × Text)) (text : Text)
     → value_at n text ≡ value text → SameBelow text (elements_at n) more
@@ -141,39 +103,6 @@ fields_on_step n row_there more text same h =
     (λ s f. then_from _ (h (after_blanks s.1)
     (omega (arith, row_rest n text v e, sign_after_blanks 44 v.rest s f, blanks_length s.1)))) (λ _. refl))
     ∙ then_from _ same
-
-row_step : (n : ℕ) (keys : Text → Option (List Key × Text)) (value : Text → Option Valued) (text : Text)
-    → keys_at (suc n) text ≡ keys text → SameBelow text (value_at n) value
-    → row_at (suc n) text ≡ row_by keys value text
-row_step n keys value text same h =
-    then_alike (keys_at (suc n) text) _ _ (λ ks e. then_alike (char_at 61 (after_blanks ks.1)) _ _ (λ s f.
-    then_from _ (h (after_blanks s.1)
-    (omega (arith, keys_shorter (keys_read (suc n) text ks e), sign_after_blanks 61 ks.1 s f, blanks_length s.1)))))
-    ∙ then_from _ same
-
-rows_step : (n : ℕ) (row_there : Text → Option Assigned) (more : Text → Option (Rows × Text)) (x : ℕ × ℕ) (text : Text)
-    → row_at (suc n) (after_blanks (x ∷ text)) ≡ row_there (after_blanks (x ∷ text))
-    → SameBelow (x ∷ text) (rows_at n) more → rows_at (suc n) (x ∷ text) ≡ rows_by row_there more x text
-rows_step n row_there more x text same h =
-    found_alike (char_at 91 (after_blanks (x ∷ text))) _ _ _ _ (λ _ _. refl) (λ _.
-    found_alike (line_end_at (x ∷ text)) _ _ _ _
-    (λ next e. h next (omega (arith, line_shorter (line_end_read (x ∷ text) next e))))
-    (λ _. then_alike (row_at (suc n) (after_blanks (x ∷ text))) _ _
-    (λ v e. then_alike (line_end_at v.rest) _ _ (λ next f. then_from _ (h next (omega (
-      arith,
-      blanks_length (x ∷ text),
-      row_rest (suc n) (after_blanks (x ∷ text)) v e,
-      ends_shorter (line_end_read v.rest next f),
-    )))))
-    ∙ then_from _ same))
-
-header_step : (n : ℕ) (keys : Text → Option (List Key × Text)) (text : Text) → SameBelow text (keys_at n) keys
-    → header_at n text ≡ header_by keys text
-header_step n keys text h =
-    then_alike (char_at 91 text) _ _ (λ s e. found_alike (char_at 91 s.1) _ _ _ _
-    (λ t f. then_from _ (h (after_blanks t.1)
-    (omega (arith, sign_shorter 91 text s e, sign_shorter 91 s.1 t f, blanks_length t.1))))
-    (λ _. then_from _ (h (after_blanks s.1) (omega (arith, sign_shorter 91 text s e, blanks_length s.1)))))
 
 sections_step : (n : ℕ) (header : Text → Option Headed) (rows : Text → Option (Rows × Text))
     (more : Text → Option (List Section)) (x : ℕ × ℕ) (text : Text)
@@ -196,58 +125,55 @@ sections_step n header rows more x text same h k =
     ∙ then_from _ same
 
 -- so two bounds that are large enough find the same
+same_found : {A : Type 0} (o o' : Option A) → ((x : A) → o ≡ Some x → o' ≡ Some x)
+    → ((x : A) → o' ≡ Some x → o ≡ Some x) → o ≡ o'
+same_found (Some x) o' f g = sym (f x refl)
+same_found None (Some x) f g = g x refl
+same_found None None f g = refl
+
 keys_enough : (n m : ℕ) (text : Text) → length text < n → length text < m → keys_at n text ≡ keys_at m text
 keys_enough (suc n) (suc m) text h k =
     keys_step n (keys_at m) text (λ t l. keys_enough n m t (omega arith) (omega arith))
 keys_enough _ _ text h k = absurd (omega arith)
 
-mutual
-  value_enough : (n m : ℕ) (text : Text) → 4 * length text + 1 ≤ n → 4 * length text + 1 ≤ m
-      → value_at n text ≡ value_at m text
-  value_enough (suc n) (suc m) text h k =
-      value_step n (elements_at m) (fields_at m) text (λ t l. elements_enough n m t (omega arith) (omega arith))
-      (λ t l. fields_enough n m t (omega arith) (omega arith))
-  value_enough _ _ text h k = absurd (omega arith)
+value_enough : (n m : ℕ) (text : Text) → 4 * length text + 1 ≤ n → 4 * length text + 1 ≤ m
+    → value_at n text ≡ value_at m text
+value_enough n m text h k =
+    same_found _ _ (λ v e. value_found m (value_read n text v e) k) (λ v e. value_found n (value_read m text v e) h)
 
-  elements_enough : (n m : ℕ) (text : Text) → 4 * length text + 2 ≤ n → 4 * length text + 2 ≤ m
-      → elements_at n text ≡ elements_at m text
-  elements_enough (suc n) (suc m) text h k =
-      elements_step n (value_at m) (elements_at m) text (value_enough n m text (omega arith) (omega arith))
-      (λ t l. elements_enough n m t (omega arith) (omega arith))
-  elements_enough _ _ text h k = absurd (omega arith)
-
-  fields_enough : (n m : ℕ) (text : Text) → 4 * length text + 3 ≤ n → 4 * length text + 3 ≤ m
-      → fields_at n text ≡ fields_at m text
-  fields_enough (suc n) (suc m) text h k =
-      found_alike (char_at 125 text) _ _ _ _ (λ _ _. refl) (λ _. fields_on_enough n m text (omega arith) (omega arith))
-  fields_enough _ _ text h k = absurd (omega arith)
-
-  fields_on_enough : (n m : ℕ) (text : Text) → 4 * length text + 2 ≤ n → 4 * length text + 2 ≤ m
-      → fields_on_at n text ≡ fields_on_at m text
-  fields_on_enough (suc n) (suc m) text h k =
-      fields_on_step n (row_at m) (fields_on_at m) text (row_enough n m text (omega arith) (omega arith))
-      (λ t l. fields_on_enough n m t (omega arith) (omega arith))
-  fields_on_enough _ _ text h k = absurd (omega arith)
-
-  row_enough : (n m : ℕ) (text : Text) → 4 * length text + 1 ≤ n → 4 * length text + 1 ≤ m
-      → row_at n text ≡ row_at m text
-  row_enough (suc n) (suc m) text h k =
-      row_step n (keys_at (suc m)) (value_at m) text (keys_enough (suc n) (suc m) text (omega arith) (omega arith))
-      (λ t l. value_enough n m t (omega arith) (omega arith))
-  row_enough _ _ text h k = absurd (omega arith)
+row_enough : (n m : ℕ) (text : Text) → 4 * length text + 1 ≤ n → 4 * length text + 1 ≤ m
+    → row_at n text ≡ row_at m text
+row_enough n m text h k =
+    same_found _ _ (λ r e. row_found m (row_read n text r e) k) (λ r e. row_found n (row_read m text r e) h)
 
 rows_enough : (n m : ℕ) (text : Text) → 4 * length text + 3 ≤ n → 4 * length text + 3 ≤ m
     → rows_at n text ≡ rows_at m text
-rows_enough (suc n) (suc m) [] h k = refl
-rows_enough (suc n) (suc m) (x ∷ text) h k =
-    rows_step n (row_at (suc m)) (rows_at m) x text (row_enough (suc n) (suc m) (after_blanks (x ∷ text))
-    (omega (arith, blanks_length (x ∷ text))) (omega (arith, blanks_length (x ∷ text))))
-    (λ t l. rows_enough n m t (omega arith) (omega arith))
-rows_enough _ _ text h k = absurd (omega arith)
+rows_enough n m text h k =
+    same_found _ _ (λ r e. rows_found m (rows_read n text r e) k) (λ r e. rows_found n (rows_read m text r e) h)
 
 header_enough : (n m : ℕ) (text : Text) → length text < n → length text < m → header_at n text ≡ header_at m text
 header_enough n m text h k =
-    header_step n (keys_at m) text (λ t l. keys_enough n m t (omega arith) (omega arith))
+    same_found _ _ (λ r e. header_found m (header_read n text r e) k) (λ r e. header_found n (header_read m text r e) h)
+
+elements_enough : (n m : ℕ) (text : Text) → 4 * length text + 2 ≤ n → 4 * length text + 2 ≤ m
+    → elements_at n text ≡ elements_at m text
+elements_enough (suc n) (suc m) text h k =
+    elements_step n (value_at m) (elements_at m) text (value_enough n m text (omega arith) (omega arith))
+    (λ t l. elements_enough n m t (omega arith) (omega arith))
+elements_enough _ _ text h k = absurd (omega arith)
+
+fields_on_enough : (n m : ℕ) (text : Text) → 4 * length text + 2 ≤ n → 4 * length text + 2 ≤ m
+    → fields_on_at n text ≡ fields_on_at m text
+fields_on_enough (suc n) (suc m) text h k =
+    fields_on_step n (row_at m) (fields_on_at m) text (row_enough n m text (omega arith) (omega arith))
+    (λ t l. fields_on_enough n m t (omega arith) (omega arith))
+fields_on_enough _ _ text h k = absurd (omega arith)
+
+fields_enough : (n m : ℕ) (text : Text) → 4 * length text + 3 ≤ n → 4 * length text + 3 ≤ m
+    → fields_at n text ≡ fields_at m text
+fields_enough (suc n) (suc m) text h k =
+    ap (if_found (char_at 125 text) _) (fields_on_enough n m text (omega arith) (omega arith))
+fields_enough _ _ text h k = absurd (omega arith)
 
 sections_enough : (n m : ℕ) (text : Text) → 4 * length text + 3 ≤ n → 4 * length text + 3 ≤ m
     → sections_at n text ≡ sections_at m text
@@ -266,12 +192,19 @@ keys_is text =
     keys_step (length text) keys_of text
     (λ t l. keys_enough (length text) (suc (length t)) t (omega arith) (omega arith))
 
-pub value_is : (text : Text) → value_of text ≡ value_by elements_of fields_of text
+pub value_is : (text : Text)
+    → value_of text ≡ if_found (char_at 91 text) (λ s. and_then (elements_of (gap s.1))
+    (λ r. Some (record { offset = s.0; value = Raw.array r.0; rest = r.1 })))
+    (if_found (char_at 123 text) (λ s. and_then (fields_of (after_blanks s.1))
+    (λ r. Some (record { offset = s.0; value = Raw.inline r.0; rest = r.1 })))
+    (option_or (word_at text) (string_value_at text)))
 unfolding value_of elements_of fields_of
 value_is text =
     let more : 4 * length text + 1 ≡ suc (4 * length text) = omega arith in
-    rw more (value_step (4 * length text) elements_of fields_of text
-    (λ t l. elements_enough _ _ t (omega arith) (omega arith)) (λ t l. fields_enough _ _ t (omega arith) (omega arith)))
+    rw more (found_alike (char_at 91 text) _ _ _ _ (λ s e. then_from _ (elements_enough _ _ (gap s.1)
+    (omega (arith, sign_shorter 91 text s e, gap_length s.1)) (omega arith)))
+    (λ _. found_alike (char_at 123 text) _ _ _ _ (λ s e. then_from _ (fields_enough _ _ (after_blanks s.1)
+    (omega (arith, sign_shorter 123 text s e, blanks_length s.1)) (omega arith))) (λ _. refl)))
 
 pub elements_is : (text : Text) → elements_of text ≡ elements_by value_of elements_of text
 unfolding elements_of value_of
@@ -292,33 +225,59 @@ fields_on_is text =
     rw more (fields_on_step (4 * length text + 1) row_of fields_on_of text refl
     (λ t l. fields_on_enough _ _ t (omega arith) (omega arith)))
 
-pub row_is : (text : Text) → row_of text ≡ row_by keys_of value_of text
+pub row_is : (text : Text)
+    → row_of text ≡ and_then (keys_of text) (λ keys. and_then (char_at 61 (after_blanks keys.1)) (λ s.
+    and_then (value_of (after_blanks s.1))
+    (λ v. Some (record { keys = keys.0; offset = v.offset; value = v.value; rest = v.rest }))))
 unfolding row_of keys_of value_of
 row_is text =
+    let n = 4 * length text in
     let more : 4 * length text + 1 ≡ suc (4 * length text) = omega arith in
-    rw more (row_step (4 * length text) keys_of value_of text
-    (keys_enough (suc (4 * length text)) (suc (length text)) text (omega arith) (omega arith))
-    (λ t l. value_enough _ _ t (omega arith) (omega arith)))
+    rw more (then_alike (keys_at (suc n) text) _ _ (λ ks e. then_alike (char_at 61 (after_blanks ks.1)) _ _ (λ s f.
+    then_from _ (value_enough n _ (after_blanks s.1)
+    (omega (arith, keys_shorter (keys_read (suc n) text ks e), sign_after_blanks 61 ks.1 s f, blanks_length s.1))
+    (omega arith))))
+    ∙ then_from _ (keys_enough (suc n) (suc (length text)) text (omega arith) (omega arith)))
 
 pub rows_is_none : rows_of [] ≡ Some (no_rows, [])
 unfolding rows_of
 rows_is_none = refl
 
-pub rows_is : (x : ℕ × ℕ) (text : Text) → rows_of (x ∷ text) ≡ rows_by row_of rows_of x text
+pub rows_is : (x : ℕ × ℕ) (text : Text)
+    → rows_of (x ∷ text) ≡ if_found (char_at 91 (after_blanks (x ∷ text))) (λ s. Some (no_rows, x ∷ text))
+    (if_found (line_end_at (x ∷ text)) (λ next. rows_of next)
+    (and_then (row_of (after_blanks (x ∷ text))) (after_row rows_of)))
 unfolding rows_of row_of
 rows_is x text =
     let n = 4 * length (x ∷ text) + 2 in
     let front = after_blanks (x ∷ text) in
     let more : 4 * length (x ∷ text) + 3 ≡ suc (4 * length (x ∷ text) + 2) = omega arith in
-    rw more (rows_step n row_of rows_of x text
-    (row_enough (suc n) (4 * length front + 1) front (omega (arith, blanks_length (x ∷ text))) (omega arith))
-    (λ t l. rows_enough n (4 * length t + 3) t (omega arith) (omega arith)))
+    rw more (found_alike (char_at 91 front) _ _ _ _ (λ _ _. refl) (λ _. found_alike (line_end_at (x ∷ text)) _ _ _ _
+    (λ next e. rows_enough n _ next (omega (arith, line_shorter (line_end_read (x ∷ text) next e))) (omega arith))
+    (λ _. then_alike (row_at (suc n) front) _ _ (λ v e. then_alike (line_end_at v.rest) _ _
+    (λ next f. then_from _ (rows_enough n _ next (omega (
+      arith,
+      blanks_length (x ∷ text),
+      row_rest (suc n) front v e,
+      ends_shorter (line_end_read v.rest next f),
+    )) (omega arith))))
+    ∙ then_from _ (row_enough (suc n) _ front (omega (arith, blanks_length (x ∷ text))) (omega arith)))))
 
-pub header_is : (text : Text) → header_of text ≡ header_by keys_of text
+pub header_is : (text : Text)
+    → header_of text ≡ and_then (char_at 91 text) (λ s. if_found (char_at 91 s.1)
+    (λ t. and_then (keys_of (after_blanks t.1))
+    (λ keys. and_then (char_at 93 (after_blanks keys.1)) (λ close. and_then (char_at 93 close.1) (λ last.
+    Some (record { offset = s.0; keys = keys.0; is_array = true; rest = last.1 })))))
+    (and_then (keys_of (after_blanks s.1)) (λ keys. and_then (char_at 93 (after_blanks keys.1)) (λ close.
+    Some (record { offset = s.0; keys = keys.0; is_array = false; rest = close.1 })))))
 unfolding header_of keys_of
 header_is text =
-    header_step (suc (length text)) keys_of text
-    (λ t l. keys_enough (suc (length text)) (suc (length t)) t (omega arith) (omega arith))
+    let n = suc (length text) in
+    then_alike (char_at 91 text) _ _ (λ s e. found_alike (char_at 91 s.1) _ _ _ _
+    (λ t f. then_from _ (keys_enough n (suc (length (after_blanks t.1))) (after_blanks t.1)
+    (omega (arith, sign_shorter 91 text s e, sign_shorter 91 s.1 t f, blanks_length t.1)) (omega arith)))
+    (λ _. then_from _ (keys_enough n (suc (length (after_blanks s.1))) (after_blanks s.1)
+    (omega (arith, sign_shorter 91 text s e, blanks_length s.1)) (omega arith))))
 
 pub sections_is_none : sections_of [] ≡ Some []
 unfolding sections_of

@@ -1,14 +1,13 @@
 -- The rows of an inline table, one by one.
-use Rattle.std.proofs.Common.{inl, inr, ◌≡◌, ℕ, ◌<◌, ◌≤◌, List, refl, ap, sym, ◌∙◌, arith, Some, None, Result, Ok, Err}
+use Rattle.std.proofs.Common.{inr, ◌≡◌, ℕ, ◌<◌, ◌≤◌, List, refl, ap, sym, ◌∙◌, arith, Some, None, Result, Ok, Err}
 use Rattle.std.specs.Str.{IsCharBoundary}
 use Rattle.basic_toml_value.specs.Nesting.{nesting_limit}
-use Rattle.basic_toml_tokens.specs.Text.{Text, text_at, after_blanks}
+use Rattle.basic_toml_tokens.specs.Text.{text_at, after_blanks}
 use Rattle.basic_toml_tokens.specs.Punctuation.{IsPunctuationEnd}
-use Rattle.basic_toml_grammar.specs.Sections.{Rows, no_rows, row}
+use Rattle.basic_toml_grammar.specs.Sections.{no_rows}
 use Rattle.basic_toml_grammar.specs.Entering.{and_then}
 use Rattle.basic_toml_grammar.specs.Levels.{rows_level}
-use Rattle.basic_toml_grammar.specs.Reader as reader
-use Rattle.basic_toml_grammar.specs.Reader.{char_at, if_found}
+use Rattle.basic_toml_grammar.specs.Reader.{char_at}
 use Rattle.basic_toml_grammar.specs.DeepStops.{DeepFields}
 use Rattle.basic_toml_grammar.specs.Holes.{HoleInFields}
 use Rattle.basic_toml_explain.specs.declared.stop.Stop.{Stop}
@@ -18,11 +17,9 @@ use Rattle.basic_toml_read.specs.declared.values.Gathered.{Gathered}
 use Rattle.basic_toml_read.specs.FrontOf.{fields_of, fields_on_of, row_of}
 use Rattle.basic_toml_read.specs.AtPlace.{Leaves}
 use Rattle.basic_toml_read.specs.StopsAt.{Misses}
-use Rattle.basic_toml_read.specs.Gathers.{Lines, no_lines, and_lines, lines_of, lines_view, row_level, IsRowRead}
+use Rattle.basic_toml_read.specs.Gathers.{Lines, no_lines, and_lines, lines_of, row_level, IsRowRead}
 use Rattle.basic_toml_read.specs.Gathers.{AreFieldsRead, ClosesAt, ReadsFields}
 use Rattle.basic_toml_read.specs.StopsReached.{LeadsTo, in_fields, in_fields_on}
-use Rattle.basic_toml_grammar.proofs.Grammar.StringsAreRead.{then_some}
-use Rattle.basic_toml_grammar.proofs.Grammar.ReaderIsSound.{found_some}
 use Rattle.basic_toml_read.proofs.StandsIn.{Answered, without_stop, SameDeep, same_deep, then_deep, stops_on, then_in}
 use Rattle.basic_toml_read.proofs.FurtherOn.{past_field, holes_past_field, last_field, unclosed_fields}
 use Rattle.basic_toml_read.proofs.EnoughSteps.{after_field, fields_is, fields_on_is}

@@ -1,5 +1,5 @@
 -- Keys one after another, up to an offset; and those of a row, as they are gathered.
-use Rattle.std.proofs.Common.{refl, inl, inr, ◌≡◌, ℕ, ◌+◌, ◌-◌, ◌<◌, ◌≤◌, List, [], ◌∷◌, ◌++◌, length, ap, sym, ◌∙◌}
+use Rattle.std.proofs.Common.{refl, inr, ◌≡◌, ℕ, ◌+◌, ◌-◌, ◌<◌, ◌≤◌, List, [], ◌∷◌, ◌++◌, length, ap, sym, ◌∙◌}
 use Rattle.std.proofs.Common.{subst, arith, append_assoc, length-append, Option, Some, None, Result, Ok, Err}
 use Rattle.std.proofs.Common.{append-nil, map, Vec, Global}
 use Rattle.std.specs.Result.{IsErrAnd}
@@ -29,7 +29,7 @@ use Rattle.basic_toml_read.specs.declared.values.Gathered.{Gathered}
 use Rattle.basic_toml_read.specs.SectionView.{key_of}
 use Rattle.basic_toml_read.specs.Gathers.{IsLastKey}
 use Rattle.basic_toml_grammar.proofs.Grammar.StringsAreRead.{then_some}
-use Rattle.basic_toml_grammar.proofs.Grammar.ReaderIsSound.{found_some, key_read}
+use Rattle.basic_toml_grammar.proofs.Grammar.ReaderIsSound.{key_read}
 use Rattle.basic_toml_grammar.proofs.Grammar.ReaderIsComplete.{key_found}
 use Rattle.basic_toml_read.proofs.StandsIn.{SameDeep, same_deep, then_deep}
 use Rattle.basic_toml_read.proofs.FurtherOn.{past_key, hole_past_key}

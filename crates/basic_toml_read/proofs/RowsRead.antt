@@ -7,7 +7,7 @@ use Rattle.basic_toml_tokens.specs.Text.{Text, text_at, is_comment, after_blanks
 use Rattle.basic_toml_tokens.specs.Punctuation.{IsPunctuationEnd}
 use Rattle.basic_toml_tokens.proofs.RestsArePartsOfText.{over_at_end}
 use Rattle.basic_toml_tokens.proofs.StepIsTheFold.{text_end}
-use Rattle.basic_toml_grammar.specs.Sections.{Rows, no_rows, row}
+use Rattle.basic_toml_grammar.specs.Sections.{Rows, no_rows}
 use Rattle.basic_toml_grammar.specs.Entering.{and_then}
 use Rattle.basic_toml_grammar.specs.Grammar.{EndsLine, IsRow, after_comment_by}
 use Rattle.basic_toml_grammar.specs.Levels.{rows_level}
@@ -20,7 +20,7 @@ use Rattle.basic_toml_explain.specs.Stop.{StopsInside}
 use Rattle.basic_toml_read.specs.declared.values.Gathered.{Gathered}
 use Rattle.basic_toml_read.specs.FrontOf.{rows_of, row_of}
 use Rattle.basic_toml_read.specs.AtPlace.{EndsAt, Leaves}
-use Rattle.basic_toml_read.specs.Gathers.{Lines, no_lines, and_lines, lines_of, lines_view, IsRowRead, ReadsRow}
+use Rattle.basic_toml_read.specs.Gathers.{Lines, no_lines, and_lines, lines_of, IsRowRead, ReadsRow}
 use Rattle.basic_toml_read.specs.Lists.{AreRowsRead, EndsLineAt, EndsOrStops, IsGap, PassesGaps, ReadsRows}
 use Rattle.basic_toml_read.specs.StopsReached.{AtDeep, IfDeep, InHole, LeadsTo, in_row, in_rows}
 use Rattle.basic_toml_grammar.proofs.Grammar.StringsAreRead.{then_some}
@@ -31,7 +31,7 @@ use Rattle.basic_toml_read.proofs.EnoughSteps.{after_row, keys_is, row_is, rows_
 use Rattle.basic_toml_read.proofs.LeftAfter.{sign_there, sign_missing, gap_past_line, gap_over, gap_ends_line}
 use Rattle.basic_toml_read.proofs.LeftAfter.{gap_has_no_bracket, line_of, no_comment}
 use Rattle.basic_toml_read.proofs.GoesOn.{after, after_from, after_none, after_one, found_from, misses_after}
-use Rattle.basic_toml_read.proofs.GoesOn.{misses_none, misses_on, then_from}
+use Rattle.basic_toml_read.proofs.GoesOn.{misses_none, then_from}
 use Rattle.basic_toml_read.proofs.StandsIn.{SameDeep, at_deep, same_deep, then_deep, stays_in, then_in}
 use Rattle.basic_toml_read.proofs.StandsIn.{newline_stop, stops_on}
 use Rattle.basic_toml_read.proofs.FurtherOn.{row_stands}
