@@ -39,12 +39,15 @@ use Rattle.basic_toml_read.proofs.AfterKeys.{keys_there}
 use Rattle.basic_toml_read.proofs.KeysTold.{KeysStop, KeysTold, told_last, told_more}
 
 -- what is known of a stop in the keys of a header, the first of which has level 2
-pub header_keys_stop : (bytes : List ℕ) (at : ℕ) (stop : Stop) → KeysStop bytes at 2 stop → record {
+abbrev pub HeaderKeysStop : List ℕ → ℕ → Stop → Type 0
+HeaderKeysStop bytes at stop = record {
   read : Misses stop.why (keys_of (text_at bytes at)) (λ keys. nesting_limit < length keys.0 + 1);
   inside : StopsInside bytes stop;
   deep : AtDeep (DeepKeys nesting_limit 2 (text_at bytes at)) stop.why stop.at;
   hole : StopsAtKey (text_at bytes at) stop.why (text_at bytes stop.at);
 }
+
+pub header_keys_stop : (bytes : List ℕ) (at : ℕ) (stop : Stop) → KeysStop bytes at 2 stop → HeaderKeysStop bytes at stop
 header_keys_stop bytes at stop is = record {
   read = misses_then stop.why (keys_of (text_at bytes at)) (keys_of (text_at bytes at)) _ _ (λ e. e)
       (λ y e. (y, e, λ h. omega (arith, h))) is.read;
@@ -158,19 +161,16 @@ HeaderStops bytes at stop = record {
 
 module _ {bytes : List ℕ} {at start : ℕ} {is_array : Bool} (b : Opened bytes at start is_array) where
   -- no keys
-  pub no_header_keys : (stop : Stop)
-      → Misses stop.why (keys_of (text_at bytes start)) (λ keys. nesting_limit < length keys.0 + 1)
-      → StopsInside bytes stop → AtDeep (DeepKeys nesting_limit 2 (text_at bytes start)) stop.why stop.at
-      → StopsAtKey (text_at bytes start) stop.why (text_at bytes stop.at) → HeaderStops bytes at stop
-  no_header_keys stop missed inside deep hole = record {
+  pub no_header_keys : (stop : Stop) → HeaderKeysStop bytes start stop → HeaderStops bytes at stop
+  no_header_keys stop e = record {
     read = misses_on stop.why (keys_of (text_at bytes start)) (closing at is_array) _ _ b.is
         (λ keys h f high. let (close, close_is, g) = then_some (char_at 93 (after_blanks keys.1)) _ h f in
         omega (arith, high, ap length (keys_kept is_array keys.0 close.1 h g)))
-        missed;
-    inside = inside;
-    deep = at_deep stop.why stop.at _ missed b.deep.leads (λ none. b.deep.backs) deep;
+        e.read;
+    inside = e.inside;
+    deep = at_deep stop.why stop.at _ e.read b.deep.leads (λ none. b.deep.backs) e.deep;
     hole = λ some. key_stops_on (text_at bytes start) (in_header (text_at bytes at)) b.key stop.why
-        (text_at bytes stop.at) hole;
+        (text_at bytes stop.at) e.hole;
   }
     where
       keys_kept : (a : Bool) (keys : List Key) (rest : Text) (h : reader.Headed) → ending at a keys rest ≡ Some h

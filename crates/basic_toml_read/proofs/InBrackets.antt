@@ -108,48 +108,7 @@ module _ (bytes : List ℕ) (at next level : ℕ) (end : Hole) (old new : Gather
         (record { on = λ h at d. HoleInValue.inline sign.0 d; same = λ at d. refl })
 
 -- what was added to items stands behind the old ones
-added_to : {A : Type 0} {new : List A} {n : ℕ} (old added : List A) → n ≡ length old → new ≡ old ++ added
+pub added_to : {A : Type 0} {new : List A} {n : ℕ} (old added : List A) → n ≡ length old → new ≡ old ++ added
     → (drop n new ≡ added) × (take n new ≡ old)
 added_to old added counted pushed =
     (rw (counted, pushed) (drop-append_seam old added), rw (counted, pushed) (take-append_seam old added))
-
--- arrays and inline tables, whole
-pub array_whole : {bytes : List ℕ} {at start level end n : ℕ} {old mid : Gathered} (offset : ℕ) → level ≤ nesting_limit
-    → Leaves bytes at start (gap (text_at bytes at)) → AreElementsRead bytes start level old mid end
-    → n ≡ length old.elements.items → (kept elements : Vec Element Global) → kept.items ≡ drop n mid.elements.items
-    → elements.items ≡ take n mid.elements.items
-    → IsArrayRead bytes offset at level old (with_elements mid elements)
-    (record { offset = offset; value = code.Array kept; end = end })
-array_whole {old = old} offset low left r counted kept elements kept_is rest_is =
-    let added = added_to old.elements.items r.added counted r.pushed in
-    record {
-      elements = elements_view r.added;
-      seen = array_of kept ∙ ap (λ (l : List Element). Raw.array (elements_view l)) (kept_is ∙ added.0);
-      is = ap elements_of (sym left.left) ∙ r.is;
-      offset_is = refl;
-      limit = (low, r.limit);
-      keeps = record { elements = rest_is ∙ added.1; lines = r.lines };
-      boundary = r.boundary;
-      later = omega (arith, left.forward, r.later);
-    }
-
-pub inline_whole : {bytes : List ℕ} {at start level end n m : ℕ} {old mid new : Gathered} {value : code.Raw}
-    (offset : ℕ) → level ≤ nesting_limit → Leaves bytes at start (after_blanks (text_at bytes at))
-    → AreFieldsRead bytes start level old mid end → n ≡ length old.parents.items → m ≡ length old.rows.items
-    → IsTableTaken mid new n m value
-    → IsInlineRead bytes offset at level old new (record { offset = offset; value = value; end = end })
-inline_whole {old = old} offset low left r parents_counted rows_counted taken =
-    let parents = added_to old.parents.items r.added.parents parents_counted (ap (λ (l : Lines). l.parents) r.pushed) in
-    let rows = added_to old.rows.items r.added.rows rows_counted (ap (λ (l : Lines). l.rows) r.pushed) in
-    let parents_left = taken.parents_left ∙ parents.1 in
-    let rows_left = taken.rows_left ∙ rows.1 in
-    record {
-      rows = lines_view r.added;
-      seen = taken.seen ∙ rw (parents.0, rows.0) refl;
-      is = ap fields_of (sym left.left) ∙ r.is;
-      offset_is = refl;
-      limit = (low, r.limit);
-      keeps = record { elements = taken.elements ∙ r.elements; lines = cc };
-      boundary = r.boundary;
-      later = omega (arith, left.forward, r.later);
-    }

@@ -135,15 +135,13 @@ module _ {bytes : List ℕ} {at first offset level : ℕ} {front : List Key}
 
   module _ (k : Keyed) {end : ℕ} (key : ReadsKeyAt bytes offset (Ok k))
       (blanks : Leaves bytes k.end end (after_blanks (text_at bytes k.end))) (high : level ≤ nesting_limit) where
-    here : Key
+    abbrev pub here : Key
     here = record { offset = offset; text = key_text_bytes k.key }
 
     -- a period and another key
     pub told_more : {next offset' : ℕ} → Leaves bytes next offset' (after_blanks (text_at bytes next))
         → IsPunctuationEnd 46 bytes end (Some next)
-        → KeysTold bytes at first offset' (level + 1) (front ++ record { offset = offset; text = key_text_bytes k.key }
-        ∷ [])
-    unfolding here
+        → KeysTold bytes at first offset' (level + 1) (front ++ here ∷ [])
     told_more {next = next} later sign =
         let found : char_at 46 (after_blanks (text_at bytes k.end)) ≡ Some (end, text_at bytes next) =
         ap (char_at 46) (sym blanks.left) ∙ sign_there sign.0 in
@@ -162,9 +160,8 @@ module _ {bytes : List ℕ} {at first offset level : ℕ} {front : List Key}
 
     -- no period
     pub told_last : IsPunctuationEnd 46 bytes end None
-        → keys_of (text_at bytes at)
-        ≡ Some (front ++ record { offset = offset; text = key_text_bytes k.key } ∷ [], text_at bytes k.end)
-    unfolding here after
+        → keys_of (text_at bytes at) ≡ Some (front ++ here ∷ [], text_at bytes k.end)
+    unfolding after
     told_last sign =
         let missed : char_at 46 (after_blanks (text_at bytes k.end)) ≡ None =
         ap (char_at 46) (sym blanks.left) ∙ sign_missing 46 (text_at bytes end) sign in

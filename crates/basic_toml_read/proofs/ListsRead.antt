@@ -31,6 +31,7 @@ use Rattle.basic_toml_grammar.proofs.Grammar.StringsAreRead.{then_some}
 use Rattle.basic_toml_grammar.proofs.Nesting.WithinTheLimit as within
 use Rattle.basic_toml_grammar.proofs.Grammar.ReaderIsSound.{rows_read, header_read, line_end_read}
 use Rattle.basic_toml_read.proofs.StandsIn.{stops_on, at_deep, then_in, newline_stop}
+use Rattle.basic_toml_read.proofs.RowsRead.{RowsAnswered}
 use Rattle.basic_toml_read.proofs.NothingTooDeep.{root_rows, after_header, its_rows}
 use Rattle.basic_toml_read.proofs.EnoughSteps.{list_is, sections_is, sections_is_none}
 use Rattle.basic_toml_read.proofs.GoesOn.{misses_none, misses_on, then_from}
@@ -102,12 +103,9 @@ module _ (bytes : List ℕ) {start : ℕ} (start_is : start ≡ start_of bytes) 
       }
 
   -- where they stop, the text stops to be one
-  pub root_stops : (old mid : Gathered) (stop : Stop)
-      → Misses stop.why (rows_of (text_at bytes start)) (λ r. nesting_limit < rows_level 1 r.0)
-      → StopsInside bytes stop → PassesGaps bytes start old mid (Err stop)
-      → IfDeep {A = Unit {0}} (DeepRows nesting_limit 1 (text_at bytes start)) (Err stop)
-      → InHole {A = Unit {0}} (in_rows (text_at bytes start)) bytes (Err stop) → IsStop bytes stop
-  root_stops old mid stop missed inside passed is_deep hole = record {
+  pub root_stops : (old mid : Gathered) (stop : Stop) → RowsAnswered bytes start 1 old mid (Err stop)
+      → IsStop bytes stop
+  root_stops old mid stop e = record {
     missed = misses_on stop.why (rows_of (text_at bytes start)) _ _ _ list_by
         (λ rows y f h. let (headed, headed_is, same) = then_some (sections_of rows.1) _ y f in
         let there : with_root rows.0 headed ≡ y = cc in
@@ -118,15 +116,15 @@ module _ (bytes : List ℕ) {start : ℕ} (start_is : start ≡ start_of bytes) 
           highest_onto (with_root rows.0 []) headed,
           (root_level rows.0).0,
         ))
-        missed;
-    inside = inside;
-    more = λ g. let e = (passed (rw start_is g)).0 in cc;
-    deep = at_deep stop.why stop.at _ missed (λ p d. deep.root (rw start_is at d))
-        (λ none p d. rw start_is (root_rows (rw start_is at none) d)) is_deep;
+        e.read;
+    inside = e.inside;
+    more = λ g. let passed = (e.gaps (rw start_is g)).0 in cc;
+    deep = at_deep stop.why stop.at _ e.read (λ p d. deep.root (rw start_is at d))
+        (λ none p d. rw start_is (root_rows (rw start_is at none) d)) e.deep;
     hole =
         let holes : LeadsTo (in_rows (text_at bytes start)) (in_text (folded bytes)) =
         rw start_is (record { on = λ h at d. HoleInText.root d; same = λ at d. refl }) in
-        stops_on holes stop.why (text_at bytes stop.at) hole;
+        stops_on holes stop.why (text_at bytes stop.at) e.hole;
   }
 
 -- the bracket where rows end
@@ -204,26 +202,23 @@ module _ {bytes : List ℕ} {at : ℕ} {h : Header} (read : IsHeaderRead bytes a
     deep_in_rows text same e p d = rw (← level_here) (its_rows (header_is text same) keys_low over e d)
 
     -- a stop in its rows
-    pub rows_stop : (stop : Stop)
-        → Misses stop.why (rows_of (text_at bytes line)) (λ r. nesting_limit < rows_level (length h.keys + 1) r.0)
-        → StopsInside bytes stop
-        → AtDeep (DeepRows nesting_limit (length h.keys + 1) (text_at bytes line)) stop.why stop.at
-        → InHole {A = Unit {0}} (in_rows (text_at bytes line)) bytes (Err stop) → SectionStops bytes at stop
+    pub rows_stop : (old mid : Gathered) (stop : Stop)
+        → RowsAnswered bytes line (length h.keys + 1) old mid (Err stop) → SectionStops bytes at stop
     unfolding made
-    rows_stop stop missed inside is_deep hole = record {
+    rows_stop old mid stop e = record {
       read = misses_on stop.why (rows_of (text_at bytes line)) _ _ _ by_rows
           (λ rows y g high. let (more, more_is, same) = then_some (sections_of rows.1) _ y g in
           let first : made rows.0 ∷ more ≡ y = cc in
           omega (arith, high, ap highest_level first, ap (λ n. rows_level (n + 1) rows.0) level_here))
-          missed;
-      inside = inside;
-      deep = λ text same. at_deep stop.why stop.at _ missed
+          e.read;
+      inside = e.inside;
+      deep = λ text same. at_deep stop.why stop.at _ e.read
           (λ p (d : DeepRows nesting_limit (length h.keys + 1) (text_at bytes line) p).
           deep.this_section (deep.rows (header_is text same) keys_low over (rw level_here d)))
-          (deep_in_rows text same) is_deep;
+          (deep_in_rows text same) e.deep;
       hole = λ text same some. stops_on {outer = in_sections text}
           (record { on = λ p there d. HoleInSections.in_rows (header_is text same) over d; same = λ there d. refl })
-          stop.why (text_at bytes stop.at) hole;
+          stop.why (text_at bytes stop.at) e.hole;
     }
 
     -- its rows
@@ -286,22 +281,18 @@ module _ (bytes : List ℕ) (at : ℕ) (list : List Section) (s : ListSoFar byte
   }
 
   -- where none is read, the text stops to be one
-  pub list_stops : (stop : Stop)
-      → Misses stop.why (and_then (header_of (text_at bytes at)) sections_from)
-      (λ sections. nesting_limit < highest_level sections)
-      → StopsInside bytes stop → IfDeepSection {A = Unit {0}} bytes at (Err stop)
-      → InSectionHole {A = Unit {0}} bytes at (Err stop) → IsStop bytes stop
+  pub list_stops : (stop : Stop) → SectionStops bytes at stop → IsStop bytes stop
   unfolding onto
-  list_stops stop missed inside is_deep hole = record {
+  list_stops stop e = record {
     missed = misses_on stop.why (and_then (header_of (text_at bytes at)) sections_from) _ _ _ list_from
         (λ headed y f high. let joined : list ++ headed ≡ y = cc in
         omega (arith, high, ap highest_level joined, highest_onto list headed))
-        missed;
-    inside = inside;
-    more = λ g. let e = (s.gaps g).0 in cc;
-    deep = at_deep stop.why stop.at _ missed s.leads (λ none. s.backs) (is_deep s.rest bracket_here);
+        e.read;
+    inside = e.inside;
+    more = λ g. let none = (s.gaps g).0 in cc;
+    deep = at_deep stop.why stop.at _ e.read s.leads (λ none. s.backs) (e.deep s.rest bracket_here);
     hole = stops_on s.holes stop.why (text_at bytes stop.at)
-        (hole s.rest bracket_here (let (x, line, rest_is, here, b, some) = s.ends in some));
+        (e.hole s.rest bracket_here (let (x, line, rest_is, here, b, some) = s.ends in some));
   }
 
 pub falls : (bytes : List ℕ) (at : ℕ) (next : Option ℕ) (rest : Text) → at ≤ length bytes

@@ -20,7 +20,7 @@ use Rattle.basic_toml_explain.specs.Stop.{StopsInside}
 use Rattle.basic_toml_read.specs.declared.values.Gathered.{Gathered}
 use Rattle.basic_toml_read.specs.FrontOf.{rows_of, row_of}
 use Rattle.basic_toml_read.specs.AtPlace.{EndsAt, Leaves}
-use Rattle.basic_toml_read.specs.Gathers.{Lines, no_lines, and_lines, lines_of, IsRowRead, ReadsRow}
+use Rattle.basic_toml_read.specs.Gathers.{row_level, Lines, no_lines, and_lines, lines_of, IsRowRead, ReadsRow}
 use Rattle.basic_toml_read.specs.Lists.{AreRowsRead, EndsLineAt, EndsOrStops, IsGap, PassesGaps, ReadsRows}
 use Rattle.basic_toml_read.specs.StopsReached.{AtDeep, IfDeep, InHole, LeadsTo, in_row, in_rows}
 use Rattle.basic_toml_grammar.proofs.Grammar.StringsAreRead.{then_some}
@@ -33,7 +33,7 @@ use Rattle.basic_toml_read.proofs.LeftAfter.{gap_has_no_bracket, line_of, no_com
 use Rattle.basic_toml_read.proofs.GoesOn.{after, after_from, after_none, after_one, found_from, misses_after}
 use Rattle.basic_toml_read.proofs.GoesOn.{misses_none, then_from}
 use Rattle.basic_toml_read.proofs.StandsIn.{SameDeep, at_deep, same_deep, then_deep, stays_in, then_in}
-use Rattle.basic_toml_read.proofs.StandsIn.{newline_stop, stops_on}
+use Rattle.basic_toml_read.proofs.StandsIn.{StopIn, newline_stop, stops_on}
 use Rattle.basic_toml_read.proofs.FurtherOn.{row_stands}
 use Rattle.basic_toml_read.proofs.LinesGathered.{LinesSoFar, row_first, lines_alone, lines_start, lines_more}
 
@@ -245,23 +245,22 @@ module _ {bytes : List ℕ} {start level at : ℕ} {old new : Gathered} (s : Row
 
         -- no row
         pub row_stops : (new' : Gathered) → IsPunctuationEnd 35 bytes front None → (stop : Stop)
-            → ReadsRow bytes front level new new' (Err stop)
-            → AtDeep (DeepRow nesting_limit level (text_at bytes front)) stop.why stop.at
-            → InHole {A = ℕ} (in_row (text_at bytes front) Hole.after_line) bytes (Err stop) → StopsInside bytes stop
+            → StopIn bytes (row_of (text_at bytes front)) (λ r. nesting_limit < row_level level r)
+            (DeepRow nesting_limit level (text_at bytes front)) (in_row (text_at bytes front) Hole.after_line) stop
             → RowsAnswered bytes start level old new' (Err stop)
-        row_stops new' hash stop missed deep hole inside = record {
+        row_stops new' hash stop e = record {
           read = misses_after stop.why _ _ _ _ (λ rs. nesting_limit < rows_level level rs) told'
               (λ r q e h. let (next, next_is, f) = then_some (line_end_at r.rest) _ q e in
               let (rows, rows_is, same) = then_some (rows_of next) _ q f in
               let there : row_first r rows.0 ≡ q.0 = cc in
               omega (arith, h, s.lines.high q.0, ap (rows_level level) there))
-              missed;
-          inside = inside;
+              e.read;
+          inside = e.inside;
           gaps = λ g. absurd (rows_no_gap g);
-          deep = at_deep stop.why stop.at _ missed (λ p d. s.deep.leads p (this_row (rw l.blanks.left at d)))
+          deep = at_deep stop.why stop.at _ e.read (λ p d. s.deep.leads p (this_row (rw l.blanks.left at d)))
               (λ none p d. rw l.blanks.left
-              (line_row goes_on (ap row_of (sym l.blanks.left) ∙ none) (s.deep.backs p d))) deep;
-          hole = stops_on holes stop.why (text_at bytes stop.at) hole;
+              (line_row goes_on (ap row_of (sym l.blanks.left) ∙ none) (s.deep.backs p d))) e.deep;
+          hole = stops_on holes stop.why (text_at bytes stop.at) e.hole;
         }
           where
             holes : LeadsTo (in_row (text_at bytes front) Hole.after_line) (in_rows (text_at bytes start))

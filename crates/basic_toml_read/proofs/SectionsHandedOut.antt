@@ -64,7 +64,7 @@ ends_on {reader = reader} is ready = record {
 -- a reader goes on behind sections
 module _ (old new : SectionReader) {next : Option ℕ} {list : List Section} (there : ListSoFar old.text.now next list)
     (text : new.text ≡ old.text) (place : new.place ≡ Behind next) where
-  put_behind : SoFar new list
+  pub put_behind : SoFar new list
   put_behind = rw (text, place) there
 
   left_now : left_to_read new ≡ left_after old.text.now next
@@ -127,36 +127,6 @@ module _ (old : SectionReader) (start : old.place ≡ Start) (mid : Gathered) {n
     text = on.text ∙ text;
     later = λ e. omega (arith, on.later e, less mid_reader text place);
   }
-
--- a section with its header
-pub section_handed_out : {old new : SectionReader} {at : ℕ} {mid : Gathered} {h : Header} {next : Option ℕ}
-    {s : code.Section} → old.place ≡ Behind (Some at) → IsReady old → IsSectionRead old.text.now at mid h next
-    → new.text ≡ old.text → new.place ≡ Behind next → lines_of new.gathered ≡ no_lines → s.at ≡ h.at
-    → s.is_array ≡ h.is_array → s.header.items ≡ h.keys → lines_in s.rows ≡ lines_of mid → ReadsOn old new s (Ok true)
-unfolding left_to_read
-section_handed_out {old = old} {new = new} {at = at} {mid = mid} {h = h} {next = next} {s = s} is ready read text place
-    none same_at is_array header taken =
-    let bytes = old.text.now in
-    let seen : lines_view (lines_in s.rows) ≡ lines_view (lines_of mid) = ap lines_view taken in
-    let one : section_of s ≡ section_seen h (lines_of mid) = rw (same_at, is_array, header, seen) refl in
-    let here : IsCharBoundary bytes at = rw is at ready.within in
-    record {
-      read = λ list so_far.
-          put_behind old new (rw one (list_more bytes at list (rw is at so_far) mid h next read)) text place;
-      ready = record {
-        within = rw (text, place) (bracket_stands bytes read.rest next read.ends);
-        none = none;
-      };
-      text = text;
-      later = λ e. omega (
-        arith,
-        here.0,
-        ap (left_at bytes) is,
-        ap (λ t. left_at t.now new.place) text,
-        ap (left_at bytes) place,
-        falls bytes at next read.rest here.0 read.from read.ends,
-      );
-    }
 
 -- memory that is refused where a section was handed out
 pub refused_after : (reader : SectionReader) (list : List Section) (s : Section) (stop : Stop)

@@ -7,10 +7,9 @@ use Rattle.basic_toml_read.proofs.reader.SectionReader.first.Goals as goal
 pub returns-in_err-bracket : goal.returns-in_err-bracket
 returns-in_err-bracket c =
     let stop = c.in_err-bracket.field-0.0 in
-    let e = c.in_err-bracket.ensures in
     rw (is_err c.from_residual.ensures.1) (stops_on stop refl (λ list so_far.
-    root_stops c.args.self.now.text.now c.start.ensures.offset c.args.self.now.gathered c.rows.new.self stop e.read
-    e.inside e.gaps e.deep e.hole))
+    root_stops c.args.self.now.text.now c.start.ensures.offset c.args.self.now.gathered c.rows.new.self stop
+    c.in_err-bracket.ensures))
 
 -- there are no rows before the first header
 pub returns-then-is_empty : goal.returns-then-is_empty

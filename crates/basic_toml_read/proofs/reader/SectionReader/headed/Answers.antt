@@ -1,8 +1,11 @@
-use Rattle.std.proofs.Common.{refl, ap, ◌∙◌}
+use Rattle.std.proofs.Common.{refl, ap, ◌∙◌, arith}
+use Rattle.std.specs.Str.{IsCharBoundary}
+use Rattle.basic_toml_read.specs.Gathers.{lines_view}
+use Rattle.basic_toml_read.specs.SectionsRead.{left_at, left_to_read}
 use Rattle.basic_toml_read.specs.declared.reader.Place.TheVariants.{Behind}
 use Rattle.basic_toml_read.proofs.StandsIn.{is_err}
-use Rattle.basic_toml_read.proofs.ListsRead.{list_stops}
-use Rattle.basic_toml_read.proofs.SectionsHandedOut.{none_in, stops_on, ends_on, section_handed_out}
+use Rattle.basic_toml_read.proofs.ListsRead.{bracket_stands, falls, list_more, list_stops}
+use Rattle.basic_toml_read.proofs.SectionsHandedOut.{none_in, stops_on, ends_on}
 use Rattle.basic_toml_read.proofs.reader.SectionReader.headed.Goals as goal
 
 -- the end of the text
@@ -13,14 +16,30 @@ pub returns-in_err-header : goal.returns-in_err-header
 returns-in_err-header c =
     let at = c.in-Some.at in
     let stop = c.in_err-header.field-0.0 in
-    let e = c.in_err-header.ensures in
     rw (is_err c.from_residual.ensures.1) (stops_on stop refl (λ list so_far.
     list_stops c.args.self.now.text.now at list (rw (c.requires.behind ∙ ap (λ o. Behind o) c.in-Some.is) at so_far)
-    stop e.read e.inside e.deep e.hole))
+    stop c.in_err-header.ensures))
 
 pub returns : goal.returns
+unfolding left_to_read
 returns c =
-    section_handed_out (c.requires.behind ∙ ap (λ o. Behind o) c.in-Some.is) c.requires.ready
-    c.in_ok-header.ensures.read refl refl
-    (c.hand_out.ensures.taken ∙ none_in c.args.section.now c.requires.empty) refl refl refl
-    c.hand_out.ensures.handed
+    let bytes = c.args.self.now.text.now in
+    let at = c.in-Some.at in
+    let read = c.in_ok-header.ensures.read in
+    let is = c.requires.behind ∙ ap (λ o. Behind o) c.in-Some.is in
+    let here : IsCharBoundary bytes at = rw is at c.requires.ready.within in
+    record {
+      read = λ list so_far. rw (ap lines_view c.hand_out.ensures.handed)
+          (list_more bytes at list (rw is at so_far) _ _ _ read);
+      ready = record {
+        within = bracket_stands bytes read.rest _ read.ends;
+        none = c.hand_out.ensures.taken ∙ none_in c.args.section.now c.requires.empty;
+      };
+      text = refl;
+      later = λ e. omega (
+        arith,
+        here.0,
+        ap (left_at bytes) is,
+        falls bytes at _ read.rest here.0 read.from read.ends,
+      );
+    }

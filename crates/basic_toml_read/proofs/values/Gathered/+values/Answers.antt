@@ -1,9 +1,13 @@
-use Rattle.std.proofs.Common.{ap, inl, Err, refl, arith, rules, ◌∙◌}
+use Rattle.std.proofs.Common.{◌≡◌, length, sym, ap, inl, Err, refl, arith, rules, ◌∙◌}
 use Rattle.basic_toml_tokens.specs.Text.{text_at}
 use Rattle.basic_toml_grammar.specs.DeepStops.{keys, this_brace, this_bracket, this_element, this_field, elements}
 use Rattle.basic_toml_grammar.specs.DeepStops.{fields}
 use Rattle.basic_toml_grammar.specs.Holes.{HoleInElements, HoleInFieldsOn, HoleInRow}
 use Rattle.basic_toml_explain.specs.StopHoles.{hole_behind}
+use Rattle.basic_toml_read.specs.FrontOf.{elements_of, fields_of}
+use Rattle.basic_toml_read.specs.Gathers.{Lines, lines_view}
+use Rattle.basic_toml_read.specs.SectionView.{elements_view}
+use Rattle.basic_toml_grammar.specs.Sections.{Raw}
 use Rattle.basic_toml_read.specs.StopsReached.{in_elements, in_fields, in_row}
 use Rattle.basic_toml_grammar.proofs.Nesting.WithinTheLimit as within
 use Rattle.basic_toml_read.proofs.StandsIn.{is_err, at_deep, key_stops_on, moved_in, stop_in_whole, then_in}
@@ -14,7 +18,8 @@ use Rattle.basic_toml_read.proofs.FieldsGathered.{fields_start, fields_none, fie
 use Rattle.basic_toml_read.proofs.NothingTooDeep.{its_row, its_value, row_keys}
 use Rattle.basic_toml_read.proofs.AfterKeys.{keys_missed, no_equals, no_equals_in_row, row_there, row_unassigned}
 use Rattle.basic_toml_read.proofs.AfterKeys.{to_its_value, value_deep, value_missing}
-use Rattle.basic_toml_read.proofs.InBrackets.{array_answered, array_whole, inline_answered, inline_whole}
+use Rattle.basic_toml_read.proofs.InBrackets.{added_to, array_answered, inline_answered}
+use Rattle.basic_toml_read.proofs.ViewsSeen.{array_of}
 use Rattle.basic_toml_read.proofs.ScalarValues.{string_answered, word_answered}
 use Rattle.basic_toml_read.proofs.values.Gathered.+values.Goals as goal
 
@@ -174,10 +179,22 @@ array-returns-in_err-end t c =
 
 pub array-returns-clause-read : goal.array-returns-clause-read
 array-returns-clause-read t c =
+    let r = c.in_ok-end.ensures.read in
+    let left = c.after_gap.ensures in
     let taken = c.in_ok-taken in
-    array_whole c.args.offset c.in_ok-raise.ensures c.after_gap.ensures c.in_ok-end.ensures.read
-    (omega (arith, c.len-from.ensures, c.args.self.now.elements.ok.0)) taken.field-0 c.taken.new.items taken.ensures.0
-    taken.ensures.1
+    let old = c.args.self.now.elements in
+    let counted : c.len-from.result ≡ length old.items = omega (arith, c.len-from.ensures, old.ok.0) in
+    let added = added_to old.items r.added counted r.pushed in
+    record {
+      elements = elements_view r.added;
+      seen = array_of taken.field-0 ∙ ap (λ l. Raw.array (elements_view l)) (taken.ensures.0 ∙ added.0);
+      is = ap elements_of (sym left.left) ∙ r.is;
+      offset_is = refl;
+      limit = (c.in_ok-raise.ensures, r.limit);
+      keeps = record { elements = taken.ensures.1 ∙ added.1; lines = r.lines };
+      boundary = r.boundary;
+      later = omega (arith, left.forward, r.later);
+    }
 
 -- an inline table
 pub inline-returns-in_err-raise : goal.inline-returns-in_err-raise
@@ -201,7 +218,24 @@ inline-returns-in_err-end t c =
 
 pub inline-returns-clause-read : goal.inline-returns-clause-read
 inline-returns-clause-read t c =
-    let g = c.args.self.now in
-    inline_whole c.args.offset c.in_ok-raise.ensures c.after_blanks.ensures c.in_ok-end.ensures.read
-    (omega (arith, c.len-parents.ensures, g.parents.ok.0)) (omega (arith, c.len-from.ensures, g.rows.ok.0))
-    c.in_ok-value.ensures
+    let r = c.in_ok-end.ensures.read in
+    let left = c.after_blanks.ensures in
+    let taken = c.in_ok-value.ensures in
+    let old = c.args.self.now in
+    let parents = added_to {n = c.len-parents.result} old.parents.items r.added.parents
+    (omega (arith, c.len-parents.ensures, old.parents.ok.0)) (ap (λ (l : Lines). l.parents) r.pushed) in
+    let rows = added_to {n = c.len-from.result} old.rows.items r.added.rows
+    (omega (arith, c.len-from.ensures, old.rows.ok.0)) (ap (λ (l : Lines). l.rows) r.pushed) in
+    record {
+      rows = lines_view r.added;
+      seen = taken.seen ∙ rw (parents.0, rows.0) refl;
+      is = ap fields_of (sym left.left) ∙ r.is;
+      offset_is = refl;
+      limit = (c.in_ok-raise.ensures, r.limit);
+      keeps = record {
+        elements = taken.elements ∙ r.elements;
+        lines = rw (taken.parents_left ∙ parents.1, taken.rows_left ∙ rows.1) refl;
+      };
+      boundary = r.boundary;
+      later = omega (arith, left.forward, r.later);
+    }

@@ -36,11 +36,9 @@ pub returns-in_err-next : goal.returns-in_err-next
 returns-in_err-next c =
     let counted : c.len.result ≡ length c.header_at.new.keys.items =
     omega (arith, c.len.ensures, c.header_at.new.keys.ok.0) in
-    let stop = c.in_err-next.field-0.0 in
-    let e = c.in_err-next.ensures in
     rw (is_err c.from_residual-in_err-next.ensures.1)
-    (rows_stop c.in_ok-header.ensures.read c.in_ok-line.line c.in_ok-line.ensures.read stop (rw counted at e.read)
-    e.inside (rw counted at e.deep) e.hole)
+    (rows_stop c.in_ok-header.ensures.read c.in_ok-line.line c.in_ok-line.ensures.read c.args.self.now
+    c.rows.new.self c.in_err-next.field-0.0 (rw counted at c.in_err-next.ensures))
 
 pub returns-clause-read : goal.returns-clause-read
 returns-clause-read c =
