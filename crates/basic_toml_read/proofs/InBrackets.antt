@@ -1,6 +1,6 @@
 -- Arrays and inline tables: as values, by what stands in their brackets, and whole.
-use Rattle.std.proofs.Common.{◌≡◌, ℕ, ◌+◌, ◌<◌, ◌≤◌, List, ◌++◌, length, drop, take, refl, ap, sym, ◌∙◌}
-use Rattle.std.proofs.Common.{arith, Some, None, Option, Result, Ok, Err, Vec, Global, subst}
+use Rattle.std.proofs.Common.{◌≡◌, ℕ, ◌+◌, ◌<◌, ◌≤◌, List, ◌++◌, length, drop, take, refl, ◌∙◌}
+use Rattle.std.proofs.Common.{arith, Some, None, Option, Result, Ok, Err, subst}
 use Rattle.std.proofs.Math.Seq.{drop-append_seam, take-append_seam}
 use Rattle.std.specs.Str.{IsCharBoundary}
 use Rattle.basic_toml_value.specs.Nesting.{nesting_limit}
@@ -14,24 +14,18 @@ use Rattle.basic_toml_grammar.specs.DeepStops.{DeepArray, DeepInline, DeepValue,
 use Rattle.basic_toml_grammar.specs.Holes.{Hole, HoleInValue}
 use Rattle.basic_toml_explain.specs.declared.stop.Stop.{Stop}
 use Rattle.basic_toml_explain.specs.declared.stop.Why.{Why}
-use Rattle.basic_toml_read.specs.declared.section.Raw as code
-use Rattle.basic_toml_read.specs.declared.section.Element.{Element}
 use Rattle.basic_toml_read.specs.declared.scalar.Valued.{Valued}
 use Rattle.basic_toml_read.specs.declared.values.Gathered.{Gathered}
 use Rattle.basic_toml_read.specs.FrontOf.{elements_of, fields_of, value_of}
-use Rattle.basic_toml_read.specs.AtPlace.{Leaves}
-use Rattle.basic_toml_read.specs.SectionView.{elements_view, raw_of}
-use Rattle.basic_toml_read.specs.Gathers.{Lines, lines_view, IsTableTaken, AreElementsRead, IsArrayRead, AreFieldsRead}
-use Rattle.basic_toml_read.specs.Gathers.{IsInlineRead, IsValueRead, Keeps, ReadsValue, ReadsArray, ReadsInline}
+use Rattle.basic_toml_read.specs.SectionView.{raw_of}
+use Rattle.basic_toml_read.specs.Gathers.{IsValueRead, Keeps, ReadsValue, ReadsArray, ReadsInline}
 use Rattle.basic_toml_read.specs.StopsAt.{Misses}
 use Rattle.basic_toml_read.specs.StopsReached.{in_value, in_elements, in_fields}
 use Rattle.basic_toml_grammar.proofs.Grammar.ReaderIsComplete.{gap}
 use Rattle.basic_toml_grammar.proofs.Nesting.WithinTheLimit as within
 use Rattle.basic_toml_read.proofs.EnoughSteps.{value_is}
 use Rattle.basic_toml_read.proofs.LeftAfter.{sign_there, sign_missing}
-use Rattle.basic_toml_read.proofs.ViewsSeen.{array_of}
 use Rattle.basic_toml_read.proofs.GoesOn.{found_from, misses_on, then_from}
-use Rattle.basic_toml_read.proofs.ElementsGathered.{with_elements}
 use Rattle.basic_toml_read.proofs.StandsIn.{Answered, stop_in_whole, without_stop}
 
 -- what stands in brackets at an offset, and the value that it makes

@@ -20,9 +20,9 @@ use Rattle.basic_toml_explain.specs.Stop.{StopsInside}
 use Rattle.basic_toml_read.specs.declared.values.Gathered.{Gathered}
 use Rattle.basic_toml_read.specs.FrontOf.{rows_of, row_of}
 use Rattle.basic_toml_read.specs.AtPlace.{EndsAt, Leaves}
-use Rattle.basic_toml_read.specs.Gathers.{row_level, Lines, no_lines, and_lines, lines_of, IsRowRead, ReadsRow}
+use Rattle.basic_toml_read.specs.Gathers.{row_level, Lines, no_lines, and_lines, lines_of, IsRowRead}
 use Rattle.basic_toml_read.specs.Lists.{AreRowsRead, EndsLineAt, EndsOrStops, IsGap, PassesGaps, ReadsRows}
-use Rattle.basic_toml_read.specs.StopsReached.{AtDeep, IfDeep, InHole, LeadsTo, in_row, in_rows}
+use Rattle.basic_toml_read.specs.StopsReached.{IfDeep, InHole, LeadsTo, in_row, in_rows}
 use Rattle.basic_toml_grammar.proofs.Grammar.StringsAreRead.{then_some}
 use Rattle.basic_toml_grammar.proofs.Grammar.ReaderIsSound.{line_end_read}
 use Rattle.basic_toml_grammar.proofs.Nesting.WithinTheLimit as within

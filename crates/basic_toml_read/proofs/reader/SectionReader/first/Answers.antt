@@ -1,7 +1,11 @@
-use Rattle.std.proofs.Common.{refl, sym, ◌∙◌}
+use Rattle.std.proofs.Common.{◌≡◌, [], length, refl, ap, sym, ◌∙◌, arith}
+use Rattle.std.specs.Vec.{vec_len}
+use Rattle.basic_toml_grammar.specs.Grammar.{with_root}
+use Rattle.basic_toml_read.specs.Gathers.{Lines, lines_of, lines_view}
+use Rattle.basic_toml_read.specs.SectionsRead.{left_at, left_to_read}
 use Rattle.basic_toml_read.proofs.StandsIn.{is_err}
-use Rattle.basic_toml_read.proofs.ListsRead.{root_stops, root_there, root_parents}
-use Rattle.basic_toml_read.proofs.SectionsHandedOut.{none_gathered, none_in, stops_on, root_handed_out, headed_first}
+use Rattle.basic_toml_read.proofs.ListsRead.{bracket_stands, root_stops, root_there, root_parents}
+use Rattle.basic_toml_read.proofs.SectionsHandedOut.{none_gathered, none_in, stops_on, less_than_all, rooted}
 use Rattle.basic_toml_read.proofs.reader.SectionReader.first.Goals as goal
 
 pub returns-in_err-bracket : goal.returns-in_err-bracket
@@ -13,20 +17,51 @@ returns-in_err-bracket c =
 
 -- there are no rows before the first header
 pub returns-then-is_empty : goal.returns-then-is_empty
+unfolding left_to_read
 returns-then-is_empty c =
-    let text = c.args.self.now.text.now in
+    let bytes = c.args.self.now.text.now in
     let start = c.start.ensures.offset in
     let e = c.in_ok-bracket.ensures in
-    headed_first c.args.self.now c.requires.start c.rows.new.self
-    (root_there text start c.requires.ready.none e.read e.gaps)
-    (none_gathered c.rows.new.self (sym c.is_empty.ensures ∙ c.if-is_empty.true)
-    (root_parents text start c.requires.ready.none e.read)) refl refl c.headed.ensures
+    let there = root_there bytes start c.requires.ready.none e.read e.gaps in
+    let none = none_gathered c.rows.new.self (sym c.is_empty.ensures ∙ c.if-is_empty.true)
+    (root_parents bytes start c.requires.ready.none e.read) in
+    let on = c.headed.ensures in
+    record {
+      read = λ list so_far. let first : list ≡ [] = rw c.requires.start at so_far in
+          let root : with_root (lines_view (lines_of c.rows.new.self)) [] ≡ list =
+          ap (λ (l : Lines). with_root (lines_view l) []) none ∙ sym first in
+          on.read list (rw (← root) there);
+      ready = on.ready;
+      text = on.text;
+      later = λ e. omega (
+        arith,
+        on.later e,
+        ap (left_at bytes) c.requires.start,
+        less_than_all bytes _ there.rest there.ends,
+      );
+    }
 
 pub returns : goal.returns
+unfolding left_to_read
 returns c =
+    let bytes = c.args.self.now.text.now in
+    let mid = c.rows.new.self in
     let e = c.in_ok-bracket.ensures in
-    root_handed_out c.args.self.now c.requires.start c.rows.new.self
-    (root_there c.args.self.now.text.now c.start.ensures.offset c.requires.ready.none e.read e.gaps)
-    (sym c.is_empty.ensures ∙ c.if-is_empty.false) refl refl
-    (c.hand_out.ensures.taken ∙ none_in c.args.section.now c.requires.empty) refl refl c.requires.empty.header
-    c.hand_out.ensures.handed
+    let there = root_there bytes c.start.ensures.offset c.requires.ready.none e.read e.gaps in
+    let counted : length mid.rows.items ≡ vec_len mid.rows = omega (arith, mid.rows.ok.0) in
+    let some = sym c.is_empty.ensures ∙ c.if-is_empty.false in
+    record {
+      read = λ list so_far. let first : list ≡ [] = rw c.requires.start at so_far in
+          rw (first, c.requires.empty.header, ap lines_view c.hand_out.ensures.handed)
+          (rw (rooted mid.parents.items mid.rows.items (rw counted some)) at there);
+      ready = record {
+        within = bracket_stands bytes there.rest _ there.ends;
+        none = c.hand_out.ensures.taken ∙ none_in c.args.section.now c.requires.empty;
+      };
+      text = refl;
+      later = λ e. omega (
+        arith,
+        ap (left_at bytes) c.requires.start,
+        less_than_all bytes _ there.rest there.ends,
+      );
+    }
