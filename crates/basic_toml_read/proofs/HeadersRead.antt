@@ -1,7 +1,7 @@
 -- Headers: their keys, and their brackets.
 use Rattle.std.proofs.Common.{inr, Err, ◌≡◌, ℕ, ◌<◌, Bool, true, false, List, refl, ◌∙◌, arith, Option, Some, None, Ok}
-use Rattle.std.proofs.Common.{◌+◌, ◌≤◌, [], ◌∷◌, ◌++◌, length, map, ap, sym, length-append, eqb-true}
-use Rattle.std.proofs.lemmas.List.{length-map, map-append}
+use Rattle.std.proofs.Common.{◌+◌, length, map, ap, sym, eqb-true}
+use Rattle.std.proofs.lemmas.List.{length-map}
 use Rattle.std.specs.Str.{IsCharBoundary}
 use Rattle.basic_toml_value.specs.Nesting.{nesting_limit}
 use Rattle.basic_toml_tokens.specs.Text.{Text, StartsWith, after_blanks, text_at}
@@ -22,11 +22,8 @@ use Rattle.basic_toml_read.specs.StopsReached.{AtDeep, InHeaderHole, StopsAtKey,
 use Rattle.basic_toml_read.specs.AtPlace.{Leaves}
 use Rattle.basic_toml_read.specs.FrontOf.{keys_of, header_of}
 use Rattle.basic_toml_read.specs.Gathers.{ClosesAt}
-use Rattle.basic_toml_read.specs.declared.scalar.Keyed.{Keyed}
-use Rattle.basic_toml_read.specs.declared.section.Key as keys
-use Rattle.basic_toml_read.specs.KeyText.{key_text_bytes}
 use Rattle.basic_toml_read.specs.SectionView.{key_of}
-use Rattle.basic_toml_read.specs.StopsAt.{Misses, ReadsKeyAt}
+use Rattle.basic_toml_read.specs.StopsAt.{Misses}
 use Rattle.basic_toml_grammar.proofs.Grammar.ReaderIsSound.{sign_read}
 use Rattle.basic_toml_grammar.proofs.Nesting.WithinTheLimit as within
 use Rattle.basic_toml_grammar.proofs.Grammar.StringsAreRead.{then_some}
@@ -36,7 +33,7 @@ use Rattle.basic_toml_read.proofs.EnoughSteps.{header_is}
 use Rattle.basic_toml_read.proofs.GoesOn.{found_from, then_from, misses_on, misses_then}
 use Rattle.basic_toml_read.proofs.LeftAfter.{sign_after, sign_missing, sign_there}
 use Rattle.basic_toml_read.proofs.AfterKeys.{keys_there}
-use Rattle.basic_toml_read.proofs.KeysTold.{KeysStop, KeysTold, told_last, told_more}
+use Rattle.basic_toml_read.proofs.KeysTold.{KeysStop}
 
 -- what is known of a stop in the keys of a header, the first of which has level 2
 abbrev pub HeaderKeysStop : List ℕ → ℕ → Stop → Type 0
@@ -55,36 +52,6 @@ header_keys_stop bytes at stop is = record {
   deep = is.deep;
   hole = is.hole;
 }
-
-module _ {bytes : List ℕ} {at offset level : ℕ} (front : List keys.Key)
-    (s : KeysTold bytes at 2 offset level (map key_of front)) (k : Keyed) {end : ℕ}
-    (key : ReadsKeyAt bytes offset (Ok k)) (blanks : Leaves bytes k.end end (after_blanks (text_at bytes k.end)))
-    (high : level ≤ nesting_limit) (all : List keys.Key)
-    (pushed : all ≡ front ++ (record { text = k.key; offset = offset } ∷ [])) where
-  seen : map key_of all ≡ map key_of front ++ record { offset = offset; text = key_text_bytes k.key } ∷ []
-  seen = ap (map key_of) pushed ∙ map-append key_of front (record { text = k.key; offset = offset } ∷ [])
-
-  pub header_next : {next offset' : ℕ} → Leaves bytes next offset' (after_blanks (text_at bytes next))
-      → IsPunctuationEnd 46 bytes end (Some next) → KeysTold bytes at 2 offset' (level + 1) (map key_of all)
-  header_next after sign = rw seen (told_more s k key blanks high after sign)
-
-  pub header_last : IsPunctuationEnd 46 bytes end None → AreHeaderKeys bytes at (record { keys = all; end = end })
-  header_last sign = record {
-    mid = text_at bytes k.end;
-    is = rw seen (told_last s k key blanks high sign);
-    after = blanks.left;
-    over = sign_missing 46 (text_at bytes end) sign;
-    limit = omega (
-      arith,
-      ap length pushed,
-      length-append front (record { text = k.key; offset = offset } ∷ []),
-      s.level_is,
-      length-map front key_of,
-      high,
-    );
-    boundary = blanks.boundary;
-    later = omega (arith, s.forward, key.2, blanks.forward);
-  }
 
 -- the rest of a header after its first closing bracket, and after its keys
 abbrev pub ending : ℕ → Bool → List Key → Text → Option reader.Headed

@@ -1,10 +1,10 @@
 -- Keys one after another, up to an offset; and those of a row, as they are gathered.
 use Rattle.std.proofs.Common.{refl, inr, ◌≡◌, ℕ, ◌+◌, ◌-◌, ◌<◌, ◌≤◌, List, [], ◌∷◌, ◌++◌, length, ap, sym, ◌∙◌}
 use Rattle.std.proofs.Common.{subst, arith, append_assoc, length-append, Option, Some, None, Result, Ok, Err}
-use Rattle.std.proofs.Common.{append-nil, map, Vec, Global}
+use Rattle.std.proofs.Common.{map}
 use Rattle.std.specs.Result.{IsErrAnd}
 use Rattle.std.specs.Str.{IsCharBoundary}
-use Rattle.std.proofs.lemmas.List.{map-append}
+use Rattle.std.proofs.lemmas.List.{length-map, map-append}
 use Rattle.basic_toml_value.specs.Nesting.{nesting_limit}
 use Rattle.basic_toml_tokens.specs.Text.{Text, text_at, after_blanks}
 use Rattle.basic_toml_tokens.specs.Punctuation.{IsPunctuationEnd}
@@ -19,7 +19,6 @@ use Rattle.basic_toml_explain.specs.declared.stop.Why.TheVariants.{Memory, Deep}
 use Rattle.basic_toml_explain.specs.declared.stop.Why.TheVariants as why
 use Rattle.basic_toml_explain.specs.Stop.{StopsInside}
 use Rattle.basic_toml_read.specs.declared.scalar.Keyed.{Keyed}
-use Rattle.basic_toml_read.specs.KeyText.{key_text_bytes}
 use Rattle.basic_toml_read.specs.FrontOf.{keys_of}
 use Rattle.basic_toml_read.specs.AtPlace.{Leaves}
 use Rattle.basic_toml_read.specs.StopsAt.{Misses, MissesKey, ReadsKeyAt}
@@ -27,7 +26,6 @@ use Rattle.basic_toml_read.specs.StopsReached.{AtDeep, StopsAtKey}
 use Rattle.basic_toml_read.specs.declared.section.Key as code_keys
 use Rattle.basic_toml_read.specs.declared.values.Gathered.{Gathered}
 use Rattle.basic_toml_read.specs.SectionView.{key_of}
-use Rattle.basic_toml_read.specs.Gathers.{IsLastKey}
 use Rattle.basic_toml_grammar.proofs.Grammar.StringsAreRead.{then_some}
 use Rattle.basic_toml_grammar.proofs.Grammar.ReaderIsSound.{key_read}
 use Rattle.basic_toml_grammar.proofs.Grammar.ReaderIsComplete.{key_found}
@@ -51,8 +49,8 @@ keys_by_key : (text : Text) (k : Key) (mid : Text) (o : Option (ℕ × Text)) �
 keys_by_key text k mid o e f = keys_is text ∙ then_from _ e ∙ found_from _ _ f
 
 -- the keys up to an offset: those in front of it, and the level of the next
-pub record KeysTold (bytes : List ℕ) (at first offset level : ℕ) (front : List Key) : Type 0 where
-  pub told : keys_of (text_at bytes at) ≡ after (λ keys. front ++ keys) (keys_of (text_at bytes offset))
+pub record KeysTold (bytes : List ℕ) (at first offset level : ℕ) (front : List code_keys.Key) : Type 0 where
+  pub told : keys_of (text_at bytes at) ≡ after (λ keys. map key_of front ++ keys) (keys_of (text_at bytes offset))
   pub level_is : level ≡ first + length front
   pub low : level ≤ nesting_limit + 1
   pub boundary : IsCharBoundary bytes offset
@@ -94,7 +92,7 @@ some_keys text keys e =
     let (more, there) = first_of (char_at 46 (after_blanks k.1)) (Some (0, k.1)) _ (λ ks. k.0 ∷ ks) [] keys f in
     omega (arith, ap length there)
 
-module _ {bytes : List ℕ} {at first offset level : ℕ} {front : List Key}
+module _ {bytes : List ℕ} {at first offset level : ℕ} {front : List code_keys.Key}
     (s : KeysTold bytes at first offset level front) where
   -- no key
   pub no_key : (stop : Stop) → ReadsKeyAt bytes offset (Err stop) → StopsInside bytes stop
@@ -120,12 +118,13 @@ module _ {bytes : List ℕ} {at first offset level : ℕ} {front : List Key}
   key_too_deep k key h = record {
     read = λ x e.
         let (keys, keys_is, f) = then_some (keys_of (text_at bytes offset)) _ x (sym s.told ∙ e) in
-        let there : front ++ keys.0 ≡ x.0 = cc in
+        let there : map key_of front ++ keys.0 ≡ x.0 = cc in
         omega (
           arith,
           s.level_is,
           ap length there,
-          length-append front keys.0,
+          length-append (map key_of front) keys.0,
+          length-map front key_of,
           some_keys (text_at bytes offset) keys keys_is,
         );
     inside = inr s.boundary;
@@ -135,22 +134,22 @@ module _ {bytes : List ℕ} {at first offset level : ℕ} {front : List Key}
 
   module _ (k : Keyed) {end : ℕ} (key : ReadsKeyAt bytes offset (Ok k))
       (blanks : Leaves bytes k.end end (after_blanks (text_at bytes k.end))) (high : level ≤ nesting_limit) where
-    abbrev pub here : Key
-    here = record { offset = offset; text = key_text_bytes k.key }
+    abbrev pub this : code_keys.Key
+    this = record { text = k.key; offset = offset }
 
     -- a period and another key
     pub told_more : {next offset' : ℕ} → Leaves bytes next offset' (after_blanks (text_at bytes next))
         → IsPunctuationEnd 46 bytes end (Some next)
-        → KeysTold bytes at first offset' (level + 1) (front ++ here ∷ [])
+        → KeysTold bytes at first offset' (level + 1) (front ++ this ∷ [])
     told_more {next = next} later sign =
         let found : char_at 46 (after_blanks (text_at bytes k.end)) ≡ Some (end, text_at bytes next) =
         ap (char_at 46) (sym blanks.left) ∙ sign_there sign.0 in
         record {
-          told = rw later.left (s.told
-              ∙ after_from _ (keys_by_key (text_at bytes offset) here (text_at bytes k.end) _ key.0 found)
+          told = rw (later.left, map-append key_of front (this ∷ [])) (s.told
+              ∙ after_from _ (keys_by_key (text_at bytes offset) (key_of this) (text_at bytes k.end) _ key.0 found)
               ∙ after_one _ _ _ (keys_of (after_blanks (text_at bytes next)))
-              (λ keys. sym (append_assoc front (here ∷ []) keys)));
-          level_is = omega (arith, s.level_is, length-append front (here ∷ []));
+              (λ keys. sym (append_assoc (map key_of front) (key_of this ∷ []) keys)));
+          level_is = omega (arith, s.level_is, length-append front (this ∷ []));
           low = omega arith;
           boundary = later.boundary;
           forward = omega (arith, s.forward, key.2, blanks.forward, later.forward, sign.2);
@@ -160,74 +159,17 @@ module _ {bytes : List ℕ} {at first offset level : ℕ} {front : List Key}
 
     -- no period
     pub told_last : IsPunctuationEnd 46 bytes end None
-        → keys_of (text_at bytes at) ≡ Some (front ++ here ∷ [], text_at bytes k.end)
+        → keys_of (text_at bytes at) ≡ Some (map key_of front ++ key_of this ∷ [], text_at bytes k.end)
     unfolding after
     told_last sign =
         let missed : char_at 46 (after_blanks (text_at bytes k.end)) ≡ None =
         ap (char_at 46) (sym blanks.left) ∙ sign_missing 46 (text_at bytes end) sign in
-        s.told ∙ after_from _ (keys_by_key (text_at bytes offset) here (text_at bytes k.end) None key.0 missed)
+        s.told ∙ after_from _ (keys_by_key (text_at bytes offset) (key_of this) (text_at bytes k.end) None key.0 missed)
 
 -- the keys of a row, as they are gathered
 pub record KeysSoFar (bytes : List ℕ) (at first offset level : ℕ) (old new : Gathered) : Type 0 where
-  pub front : List Key
-  pub keys : KeysTold bytes at first offset level front
   pub parents : List code_keys.Key
+  pub keys : KeysTold bytes at first offset level parents
   pub pushed : new.parents.items ≡ old.parents.items ++ parents
-  pub seen : map key_of parents ≡ front
   pub rows : new.rows.items ≡ old.rows.items
   pub elements : new.elements.items ≡ old.elements.items
-
-pub keys_start : (bytes : List ℕ) (at first : ℕ) (old : Gathered) → first ≤ nesting_limit → IsCharBoundary bytes at
-    → KeysSoFar bytes at first at first old old
-keys_start bytes at first old low b = record {
-  front = [];
-  keys = told_start bytes at first low b;
-  parents = [];
-  pushed = sym (append-nil old.parents.items);
-  seen = refl;
-  rows = refl;
-  elements = refl;
-}
-
-abbrev pub with_parents : Gathered → Vec code_keys.Key Global → Gathered
-with_parents g parents = record { alloc = g.alloc; elements = g.elements; parents = parents; rows = g.rows }
-
-module _ {bytes : List ℕ} {at first offset level : ℕ} {old new : Gathered}
-    (s : KeysSoFar bytes at first offset level old new) (k : Keyed) {end : ℕ} (key : ReadsKeyAt bytes offset (Ok k))
-    (blanks : Leaves bytes k.end end (after_blanks (text_at bytes k.end))) (high : level ≤ nesting_limit) where
-  -- a period and another key
-  pub keys_more : {next offset' : ℕ} → Leaves bytes next offset' (after_blanks (text_at bytes next))
-      → IsPunctuationEnd 46 bytes end (Some next) → (parents : Vec code_keys.Key Global)
-      → parents.items ≡ new.parents.items ++ record { text = k.key; offset = offset } ∷ []
-      → KeysSoFar bytes at first offset' (level + 1) old (with_parents new parents)
-  keys_more after sign parents pushed =
-      let parent : code_keys.Key = record { text = k.key; offset = offset } in
-      record {
-        front = s.front ++ record { offset = offset; text = key_text_bytes k.key } ∷ [];
-        keys = told_more s.keys k key blanks high after sign;
-        parents = s.parents ++ parent ∷ [];
-        pushed = pushed ∙ rw s.pushed (append_assoc old.parents.items s.parents (parent ∷ []));
-        seen = map-append key_of s.parents (parent ∷ []) ∙ rw s.seen refl;
-        rows = s.rows;
-        elements = s.elements;
-      }
-
-  -- no period
-  pub keys_last : IsPunctuationEnd 46 bytes end None
-      → IsLastKey bytes at first old new (record { key = k.key; offset = offset; level = level; end = end })
-  keys_last sign = record {
-    front = s.front;
-    mid = text_at bytes k.end;
-    is = told_last s.keys k key blanks high sign;
-    after = blanks.left;
-    over = sign_missing 46 (text_at bytes end) sign;
-    parents = s.parents;
-    pushed = s.pushed;
-    seen = s.seen;
-    rows = s.rows;
-    elements = s.elements;
-    level_is = s.keys.level_is;
-    limit = high;
-    boundary = blanks.boundary;
-    later = omega (arith, s.keys.forward, key.2, blanks.forward);
-  }

@@ -1,8 +1,13 @@
-use Rattle.std.proofs.Common.{ap, arith, ◌∙◌, Err}
+use Rattle.std.proofs.Common.{[], ◌∷◌, length, length-append, ap, arith, ◌∙◌, Err}
+use Rattle.std.proofs.lemmas.List.{map-append}
+use Rattle.basic_toml_tokens.specs.Text.{text_at}
+use Rattle.basic_toml_read.specs.declared.section.Key.{Key}
+use Rattle.basic_toml_read.specs.SectionView.{key_of}
 use Rattle.basic_toml_explain.specs.declared.stop.Why.TheVariants.{Deep}
 use Rattle.basic_toml_read.proofs.StandsIn.{is_err}
-use Rattle.basic_toml_read.proofs.KeysTold.{key_too_deep, no_key, told_start}
-use Rattle.basic_toml_read.proofs.HeadersRead.{header_keys_stop, header_next, header_last}
+use Rattle.basic_toml_read.proofs.KeysTold.{key_too_deep, no_key, told_start, told_more, told_last}
+use Rattle.basic_toml_read.proofs.LeftAfter.{sign_missing}
+use Rattle.basic_toml_read.proofs.HeadersRead.{header_keys_stop}
 use Rattle.basic_toml_read.proofs.header.header_keys.Goals as goal
 
 pub loop-keyed-init : goal.loop-keyed-init
@@ -12,15 +17,34 @@ loop-keyed-init c =
 
 pub loop-keyed-preserved : goal.loop-keyed-preserved
 loop-keyed-preserved c =
-    header_next c.loop-keyed.keys.items c.loop-keyed.invariant c.in_ok-keyed.keyed c.in_ok-keyed.ensures.read
-    c.after_blanks-end.ensures c.in_ok-raise.ensures c.push.new.self.items c.in_ok-push.ensures.items
-    c.after_blanks-offset.ensures c.in-Some.ensures
+    rw c.in_ok-push.ensures.items
+    (told_more c.loop-keyed.invariant c.in_ok-keyed.keyed c.in_ok-keyed.ensures.read c.after_blanks-end.ensures
+    c.in_ok-raise.ensures c.after_blanks-offset.ensures c.in-Some.ensures)
 
 pub returns-in-None-clause-read : goal.returns-in-None-clause-read
 returns-in-None-clause-read c =
-    header_last c.loop-keyed.keys.items c.loop-keyed.invariant c.in_ok-keyed.keyed c.in_ok-keyed.ensures.read
-    c.after_blanks-end.ensures c.in_ok-raise.ensures c.push.new.self.items c.in_ok-push.ensures.items
-    c.in-None.ensures
+    let s = c.loop-keyed.invariant in
+    let front = c.loop-keyed.keys.items in
+    let k = c.in_ok-keyed.keyed in
+    let this : Key = record { text = k.key; offset = c.loop-keyed.offset } in
+    let read = c.in_ok-keyed.ensures.read in
+    let blanks = c.after_blanks-end.ensures in
+    record {
+      mid = text_at c.args.text.now k.end;
+      is = rw (c.in_ok-push.ensures.items, map-append key_of front (this ∷ []))
+          (told_last s k read blanks c.in_ok-raise.ensures c.in-None.ensures);
+      after = blanks.left;
+      over = sign_missing 46 (text_at c.args.text.now c.after_blanks-end.result) c.in-None.ensures;
+      limit = omega (
+        arith,
+        ap length c.in_ok-push.ensures.items,
+        length-append front (this ∷ []),
+        s.level_is,
+        c.in_ok-raise.ensures,
+      );
+      boundary = blanks.boundary;
+      later = omega (arith, s.forward, read.2, blanks.forward);
+    }
 
 pub returns-in_err-keyed : goal.returns-in_err-keyed
 returns-in_err-keyed c =
