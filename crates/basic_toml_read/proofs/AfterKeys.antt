@@ -1,6 +1,6 @@
 -- A row after its keys: what is read of it, what is too deep in its value, and the holes of its value.
 use Rattle.std.proofs.Common.{◌≡◌, ◌≤◌, ◌+◌, ◌-◌, ℕ, suc, List, [], ◌∷◌, ◌++◌, length, refl, ap, sym, ◌∙◌, arith}
-use Rattle.std.proofs.Common.{length-append, Some, None, ◌<◌, subst, Option, Vec, Global}
+use Rattle.std.proofs.Common.{inr, length-append, Some, None, ◌<◌, subst, Option, Vec, Global}
 use Rattle.std.proofs.lemmas.List.{length-map}
 use Rattle.basic_toml_value.specs.Nesting.{nesting_limit}
 use Rattle.basic_toml_tokens.specs.Text.{Text, text_at, after_blanks}
@@ -13,7 +13,6 @@ use Rattle.basic_toml_grammar.specs.Reader.{char_at, if_found, string_at, word_a
 use Rattle.basic_toml_grammar.specs.Entering.{and_then}
 use Rattle.basic_toml_grammar.specs.Levels.{value_level}
 use Rattle.basic_toml_grammar.specs.Reader as reader
-use Rattle.basic_toml_explain.specs.StopHoles.{StopsFor}
 use Rattle.basic_toml_explain.specs.declared.stop.Why.TheVariants.{Equals}
 use Rattle.basic_toml_explain.specs.declared.stop.Why.{Why}
 use Rattle.basic_toml_read.specs.declared.values.Gathered.{Gathered}
@@ -30,7 +29,7 @@ use Rattle.basic_toml_read.specs.StopsAt.{Misses}
 use Rattle.basic_toml_grammar.proofs.Grammar.ReaderIsSound.{keys_read}
 use Rattle.basic_toml_grammar.proofs.Nesting.WithinTheLimit as within
 use Rattle.basic_toml_grammar.proofs.Grammar.StringsAreRead.{then_some}
-use Rattle.basic_toml_read.proofs.StandsIn.{SameDeep, nothing_fits}
+use Rattle.basic_toml_read.proofs.StandsIn.{SameDeep, StopIn, nothing_fits}
 use Rattle.basic_toml_read.proofs.LeftAfter.{sign_after, sign_missing, sign_there}
 use Rattle.basic_toml_read.proofs.EnoughSteps.{row_is}
 use Rattle.basic_toml_read.proofs.ViewsSeen.{row_before}
@@ -95,23 +94,23 @@ module _ {bytes : List ℕ} {at level : ℕ} {old new : Gathered} {last : LastKe
   unfolding assigned
   row_by o e = row_is (text_at bytes at) ∙ then_from _ k.is ∙ then_from _ (ap (char_at 61) (sym k.after) ∙ e)
 
-  pub no_equals : IsPunctuationEnd 61 bytes last.end None → row_of (text_at bytes at) ≡ None
-  no_equals sign = row_by None (sign_missing 61 (text_at bytes last.end) sign)
-
   -- no equals sign
-  module _ (none : IsPunctuationEnd 61 bytes last.end None) where
-    pub row_unassigned : (p : ℕ) → DeepRow nesting_limit level (text_at bytes at) p → ⊥
-    row_unassigned p d =
-        within.no_equals keys_stand keys_within (ap (char_at 46) (sym k.after) ∙ k.over)
-        (ap (char_at 61) (sym k.after) ∙ sign_missing 61 (text_at bytes last.end) none) d
-
-    pub no_equals_in_row : (end : Hole) → StopsFor (in_row (text_at bytes at) end).HoleIn
-        (in_row (text_at bytes at) end).behind Equals (text_at bytes last.end)
-    no_equals_in_row end = record {
-      hole = rw k.after (HoleInRow.after_keys keys_stand);
-      missing = nothing_fits Hole.after_keys 61 46 (text_at bytes last.end)
-          (sign_missing 61 (text_at bytes last.end) none) k.over (λ c. refl);
-    }
+  pub no_equals : IsPunctuationEnd 61 bytes last.end None → (end : Hole)
+      → StopIn bytes (row_of (text_at bytes at)) (λ r. nesting_limit < row_level level r)
+      (DeepRow nesting_limit level (text_at bytes at)) (in_row (text_at bytes at) end)
+      (record { at = last.end; why = Equals })
+  no_equals sign end =
+      let none = sign_missing 61 (text_at bytes last.end) sign in
+      record {
+        read = row_by None none;
+        inside = inr k.boundary;
+        deep = λ p d. within.no_equals keys_stand keys_within (ap (char_at 46) (sym k.after) ∙ k.over)
+            (ap (char_at 61) (sym k.after) ∙ none) d;
+        hole = record {
+          hole = rw k.after (HoleInRow.after_keys keys_stand);
+          missing = nothing_fits Hole.after_keys 61 46 (text_at bytes last.end) none k.over (λ c. refl);
+        };
+      }
 
   -- the value
   module _ {next start : ℕ} (left : Leaves bytes next start (after_blanks (text_at bytes next)))

@@ -113,10 +113,6 @@ two_brackets {bytes = bytes} {at = at} {inner = inner} {first = first} left open
       half_closed = λ e keys mid last p ks close. HoleInHeader.array_last bracket second (rw left.left at ks) close;
     }
 
--- a header, by its brackets
-pub no_bracket : (text : Text) → char_at 91 text ≡ None → header_of text ≡ None
-no_bracket text e = header_is text ∙ then_from _ e
-
 -- what is known of a stop in a header
 abbrev pub HeaderStops : List ℕ → ℕ → Stop → Type 0
 HeaderStops bytes at stop = record {

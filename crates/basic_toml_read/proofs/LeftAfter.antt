@@ -1,7 +1,6 @@
 -- What is left of a text after blanks, comments, gaps and words.
-use Rattle.std.proofs.Common.{inl, inr, ◌≡◌, ℕ, ◌≤◌, ◌==◌, ◌||◌, Bool, true, false, cond, List, [], ◌∷◌, length}
+use Rattle.std.proofs.Common.{inl, ◌≡◌, ℕ, ◌==◌, ◌||◌, Bool, true, false, cond, List, [], ◌∷◌}
 use Rattle.std.proofs.Common.{refl, ap, sym, ◌∙◌, arith, Option, Some, None, is_some, eqb-true}
-use Rattle.std.specs.Str.{IsCharBoundary}
 use Rattle.std.proofs.lemmas.Bool.Decides.{nat_tests}
 use Rattle.std.proofs.lemmas.Bool.{eq-eqb, false≢true, or_from, or_right}
 use Rattle.basic_toml_tokens.specs.Text.{Text, StartsWith, text_at, run, after_run, is_blank, is_keylike, is_comment}
@@ -10,7 +9,6 @@ use Rattle.basic_toml_tokens.specs.Strings.{is_quote}
 use Rattle.basic_toml_tokens.specs.Punctuation.{IsPunctuationEnd}
 use Rattle.basic_toml_tokens.specs.Quote.{IsFeed}
 use Rattle.basic_toml_tokens.proofs.SpacesAreRuns.{after_twice, fails_first}
-use Rattle.basic_toml_tokens.proofs.StepIsTheFold.{text_end}
 use Rattle.basic_toml_grammar.specs.Grammar.{is_wordlike, after_comment_by, after_gap_from, after_gap}
 use Rattle.basic_toml_grammar.specs.Reader.{char_at, string_at, word_at, end_of}
 use Rattle.basic_toml_read.specs.AtPlace.{EndsAt, BeginsString, IsJoint}
@@ -32,10 +30,6 @@ no_comment [] e = refl
 no_comment (x ∷ text) e = ap (λ b. cond b (after_run is_comment text) (x ∷ text)) (fails_first (λ x. x == 35) x text e)
 
 -- the end of a line
-pub line_ends : (bytes : List ℕ) (at : ℕ) → length bytes ≤ at → IsCharBoundary bytes at → EndsAt bytes at (Some at)
-line_ends bytes at h b =
-    (rw (text_end bytes at h) refl, b, omega arith, inr h)
-
 no_end : (text : Text) → after_run (λ c. c == 10) text ≡ text → (text ≡ [] → ⊥) → end_of text ≡ None
 no_end [] e some = absurd (some refl)
 no_end (x ∷ text) e some = ap (λ b. cond b (Some text) None) (fails_first (λ c. c == 10) x text e)

@@ -1,5 +1,5 @@
 -- What `sections` answers: the list that is read, or why there is none.
-use Rattle.std.proofs.Common.{inl, inr, ◌≡◌, ◌<◌, ℕ, List, sym, ◌∙◌, subst, Some, None, Ok, Vec, Global}
+use Rattle.std.proofs.Common.{inl, inr, ◌≡◌, ◌<◌, ℕ, List, sym, ◌∙◌, subst, Some, None}
 use Rattle.std.specs.Prelude.{IsUtf8}
 use Rattle.basic_toml_value.specs.Nesting.{nesting_limit}
 use Rattle.basic_toml_tokens.specs.Text.{folded}
@@ -11,19 +11,12 @@ use Rattle.basic_toml_explain.specs.declared.stop.Stop.{Stop}
 use Rattle.basic_toml_explain.specs.declared.stop.Why.{Why}
 use Rattle.basic_toml_explain.specs.declared.stop.Why.TheVariants.{Memory, Deep}
 use Rattle.basic_toml_explain.specs.Explain.{IsDue, IsOutside, ExplainsWhy}
-use Rattle.basic_toml_read.specs.declared.section.Section as code
 use Rattle.basic_toml_read.specs.StopsAt.{Misses}
-use Rattle.basic_toml_read.specs.SectionsRead.{ReadsList, IsStop}
+use Rattle.basic_toml_read.specs.SectionsRead.{IsStop}
 use Rattle.basic_toml_read.specs.StopsReached.{AtDeep}
-use Rattle.basic_toml_read.specs.SectionsAnswer.{HoldsMore, IsRefused, memory, deep, outside, AnswersSections}
+use Rattle.basic_toml_read.specs.SectionsAnswer.{HoldsMore, IsRefused, memory, deep, outside}
 use Rattle.basic_toml_grammar.proofs.Grammar.ReaderIsComplete.{list_found}
-use Rattle.basic_toml_grammar.proofs.Grammar.ReaderIsSound.{list_read}
 use Rattle.basic_toml_grammar.proofs.Nesting.DeepStopsAreTooDeep.{deep_stops_are_too_deep}
-
--- the list that is read is the one of the grammar
-pub list_answered : (bytes : List ℕ) (list : Vec code.Section Global) → ReadsList bytes (Ok list)
-    → AnswersSections bytes (Ok list)
-list_answered bytes list r = (list_read (folded bytes) _ r.is, r.limit)
 
 none_found : (bytes : List ℕ) → section_list_of (folded bytes) ≡ None → IsOutside bytes
 none_found bytes none sections g =

@@ -9,7 +9,7 @@ use Rattle.basic_toml_tokens.proofs.RestsArePartsOfText.{over_at_end}
 use Rattle.basic_toml_tokens.proofs.StepIsTheFold.{text_end}
 use Rattle.basic_toml_grammar.specs.Sections.{Rows, no_rows}
 use Rattle.basic_toml_grammar.specs.Entering.{and_then}
-use Rattle.basic_toml_grammar.specs.Grammar.{EndsLine, IsRow, after_comment_by}
+use Rattle.basic_toml_grammar.specs.Grammar.{EndsLine, IsRow}
 use Rattle.basic_toml_grammar.specs.Levels.{rows_level}
 use Rattle.basic_toml_grammar.specs.Reader.{char_at, key_at, if_found, end_of, line_end_at}
 use Rattle.basic_toml_grammar.specs.DeepStops.{DeepRows, this_row, after_empty, later_row, DeepRow}
@@ -29,7 +29,7 @@ use Rattle.basic_toml_grammar.proofs.Nesting.WithinTheLimit as within
 use Rattle.basic_toml_read.proofs.NothingTooDeep.{line_row}
 use Rattle.basic_toml_read.proofs.EnoughSteps.{after_row, keys_is, row_is, rows_is, rows_is_none}
 use Rattle.basic_toml_read.proofs.LeftAfter.{sign_there, sign_missing, gap_past_line, gap_over, gap_ends_line}
-use Rattle.basic_toml_read.proofs.LeftAfter.{gap_has_no_bracket, line_of, no_comment}
+use Rattle.basic_toml_read.proofs.LeftAfter.{gap_has_no_bracket, line_of}
 use Rattle.basic_toml_read.proofs.GoesOn.{after, after_from, after_none, after_one, found_from, misses_after}
 use Rattle.basic_toml_read.proofs.GoesOn.{misses_none, then_from}
 use Rattle.basic_toml_read.proofs.StandsIn.{SameDeep, at_deep, same_deep, then_deep, stays_in, then_in}
@@ -72,18 +72,6 @@ line_told bytes at end l (Ok next) e = (
   elim e.3 [ inl m ↦ inl (omega (arith, l.forward)) | inr m ↦ inr m ],
 )
 line_told bytes at end l (Err stop) e = rw e.1 (ap end_of (sym l.left) ∙ e.0, refl, l.left)
-
--- what stands after the comment of a line, and at the front of a line without one
-pub comment_line : (bytes : List ℕ) (at front end : ℕ) → Leaves bytes at front (after_blanks (text_at bytes at))
-    → Leaves bytes front end (after_comment_by is_comment (text_at bytes front))
-    → line_of (text_at bytes at) ≡ text_at bytes end
-comment_line bytes at front end blanks comment =
-    ap (after_comment_by is_comment) (sym blanks.left) ∙ sym comment.left
-
-pub other_line : (bytes : List ℕ) (at front : ℕ) → Leaves bytes at front (after_blanks (text_at bytes at))
-    → IsPunctuationEnd 35 bytes front None → line_end_at (text_at bytes at) ≡ end_of (text_at bytes front)
-other_line bytes at front blanks hash =
-    ap end_of (ap (after_comment_by is_comment) (sym blanks.left) ∙ no_comment (text_at bytes front) hash)
 
 pub sign_stands : (c : ℕ) (bytes : List ℕ) (at : ℕ) (o : Option ℕ) → IsPunctuationEnd c bytes at o → true ≡ is_some o
     → (next : ℕ) × IsPunctuationEnd c bytes at (Some next)

@@ -7,14 +7,13 @@ use Rattle.std.specs.Option.{option_or}
 use Rattle.basic_toml_value.specs.Nesting.{nesting_limit}
 use Rattle.basic_toml_numbers.specs.Numbers.{integer_of, float_of}
 use Rattle.basic_toml_tokens.specs.Text.{Text, text_at, run}
-use Rattle.basic_toml_tokens.specs.Punctuation.{IsPunctuationEnd}
 use Rattle.basic_toml_grammar.specs.Copies.{up_to, needs_copy}
 use Rattle.basic_toml_grammar.specs.DeepStops.{DeepValue, array, inline}
 use Rattle.basic_toml_grammar.specs.Grammar.{is_wordlike, number_value, word_value}
 use Rattle.basic_toml_grammar.specs.Holes.{Hole, HoleInValue}
 use Rattle.basic_toml_grammar.specs.Levels.{value_level}
 use Rattle.basic_toml_grammar.specs.Reader as reader
-use Rattle.basic_toml_grammar.specs.Reader.{string_at, word_at, string_value_at}
+use Rattle.basic_toml_grammar.specs.Reader.{char_at, string_at, word_at, string_value_at}
 use Rattle.basic_toml_grammar.specs.Sections.{Raw}
 use Rattle.basic_toml_explain.specs.StopHoles.{NoValue, hole_behind}
 use Rattle.basic_toml_explain.specs.Stop.{StopsInside}
@@ -33,7 +32,6 @@ use Rattle.basic_toml_grammar.proofs.Nesting.WithinTheLimit as within
 use Rattle.basic_toml_read.proofs.StandsIn.{Answered, without_stop}
 use Rattle.basic_toml_read.proofs.EnoughSteps.{value_is}
 use Rattle.basic_toml_read.proofs.GoesOn.{found_from, then_from}
-use Rattle.basic_toml_read.proofs.LeftAfter.{sign_missing}
 
 string_level : (l : ℕ) (text : Text) (v : reader.Valued) → string_value_at text ≡ Some v → value_level l v.value ≡ 0
 string_level l text v e =
@@ -41,41 +39,37 @@ string_level l text v e =
     let there : Raw.string (encode_utf8_all s.value) (needs_copy s.multiline (up_to s.rest text)) ≡ v.value = cc in
     sym (ap (value_level l) there)
 
-number_level : (l : ℕ) (o : Option ℤ) (t : Option (List ℕ)) (v : Raw) → number_value o t ≡ Some v → value_level l v ≡ 0
-number_level l (Some z) t v e = let there : Raw.integer z ≡ v = cc in sym (ap (value_level l) there)
-number_level l None (Some t) v e = let there : Raw.float t ≡ v = cc in sym (ap (value_level l) there)
-number_level l None None v e = cc
-
 word_level : (l : ℕ) (text : Text) (v : reader.Valued) → word_at text ≡ Some v → value_level l v.value ≡ 0
 word_level l [] v e = cc
 word_level l (x ∷ text) v e =
     let (w, w_is, f) = then_some (word_value (run is_wordlike (x ∷ text))) _ v e in
     let there : w ≡ v.value = cc in
-    sym (ap (value_level l) there) ∙ go (bytes_eq word (codes "true")) (bytes_eq word (codes "false")) w w_is
+    sym (ap (value_level l) there)
+    ∙ go (bytes_eq word (codes "true")) (bytes_eq word (codes "false")) (integer_of word) (float_of word) w w_is
   where
     word : List ℕ
     word = run is_wordlike (x ∷ text)
 
-    go : (a b : Bool) (w : Raw)
-        → cond a (Some (Raw.boolean true))
-        (cond b (Some (Raw.boolean false)) (number_value (integer_of word) (float_of word))) ≡ Some w
+    go : (a b : Bool) (z : Option ℤ) (t : Option (List ℕ)) (w : Raw)
+        → cond a (Some (Raw.boolean true)) (cond b (Some (Raw.boolean false)) (number_value z t)) ≡ Some w
         → value_level l w ≡ 0
-    go true b w e = let there : Raw.boolean true ≡ w = cc in sym (ap (value_level l) there)
-    go false true w e = let there : Raw.boolean false ≡ w = cc in sym (ap (value_level l) there)
-    go false false w e = number_level l (integer_of word) (float_of word) w e
+    go true b z t w e = let there : Raw.boolean true ≡ w = cc in sym (ap (value_level l) there)
+    go false true z t w e = let there : Raw.boolean false ≡ w = cc in sym (ap (value_level l) there)
+    go false false (Some z) t w e = let there : Raw.integer z ≡ w = cc in sym (ap (value_level l) there)
+    go false false None (Some t) w e = let there : Raw.float t ≡ w = cc in sym (ap (value_level l) there)
+    go false false None None w e = cc
 
 -- where no bracket stands
-module _ (bytes : List ℕ) (at level : ℕ) (end : End) (old : Gathered) (bracket : IsPunctuationEnd 91 bytes at None)
-    (brace : IsPunctuationEnd 123 bytes at None) where
-  abbrev ScalarAnswered : Result Valued Stop → Type 0
+module _ (bytes : List ℕ) (at level : ℕ) (end : End) (old : Gathered) (bracket : char_at 91 (text_at bytes at) ≡ None)
+    (brace : char_at 123 (text_at bytes at) ≡ None) where
+  abbrev pub ScalarAnswered : Result Valued Stop → Type 0
   ScalarAnswered = Answered bytes (ReadsValue bytes at level old old) (DeepValue nesting_limit level (text_at bytes at))
       (in_value (text_at bytes at) (hole_behind end))
 
   scalar_by : (o : Option reader.Valued) → word_at (text_at bytes at) ≡ o
       → value_of (text_at bytes at) ≡ option_or o (string_value_at (text_at bytes at))
   scalar_by o e =
-      value_is (text_at bytes at) ∙ found_from _ _ (sign_missing 91 (text_at bytes at) bracket)
-      ∙ found_from _ _ (sign_missing 123 (text_at bytes at) brace)
+      value_is (text_at bytes at) ∙ found_from _ _ bracket ∙ found_from _ _ brace
       ∙ ap (λ o. option_or o (string_value_at (text_at bytes at))) e
 
   scalar_read : {v : Valued} {o : Option reader.Valued} (f : IsValued bytes at v o)
@@ -88,26 +82,16 @@ module _ (bytes : List ℕ) (at level : ℕ) (end : End) (old : Gathered) (brack
   }
 
   nothing_deep : (p : ℕ) → DeepValue nesting_limit level (text_at bytes at) p → ⊥
-  nothing_deep p (array s d) = within.no_such (sign_missing 91 (text_at bytes at) bracket) s
-  nothing_deep p (inline s d) = within.no_such (sign_missing 123 (text_at bytes at) brace) s
+  nothing_deep p (array s d) = within.no_such bracket s
+  nothing_deep p (inline s d) = within.no_such brace s
 
   no_value : run is_wordlike (text_at bytes at) ≡ [] → string_at (text_at bytes at) ≡ None
       → HoleInValue (text_at bytes at) Hole.value (text_at bytes at) × NoValue (text_at bytes at)
-  no_value no_word no_string = (
-    HoleInValue.this_value,
-    (
-      no_word,
-      no_string,
-      sign_missing 91 (text_at bytes at) bracket,
-      sign_missing 123 (text_at bytes at) brace,
-    ),
-  )
+  no_value no_word no_string = (HoleInValue.this_value, (no_word, no_string, bracket, brace))
 
   pub string_answered : (result : Result Valued Stop) → word_at (text_at bytes at) ≡ None
       → run is_wordlike (text_at bytes at) ≡ [] → ReadsStringAt bytes at result
-      → IfErr result (λ stop. StopsInside bytes stop)
-      → Answered bytes (ReadsValue bytes at level old old) (DeepValue nesting_limit level (text_at bytes at))
-      (in_value (text_at bytes at) (hole_behind end)) result
+      → IfErr result (λ stop. StopsInside bytes stop) → ScalarAnswered result
   string_answered (Ok v) no_word empty f inside =
       without_stop (scalar_read f (scalar_by None no_word ∙ f.is) (string_level level (text_at bytes at) _ f.is))
   string_answered (Err stop) no_word empty f inside = go stop.why stop.at f.0 f.1 inside
@@ -124,9 +108,7 @@ module _ (bytes : List ℕ) (at level : ℕ) (end : End) (old : Gathered) (brack
       go _ p m same inside = absurd m
 
   pub word_answered : (result : Result Valued Stop) → string_at (text_at bytes at) ≡ None → ReadsWordAt bytes at result
-      → IfErr result (WantsEnd end) → IfErr result (λ stop. StopsInside bytes stop)
-      → Answered bytes (ReadsValue bytes at level old old) (DeepValue nesting_limit level (text_at bytes at))
-      (in_value (text_at bytes at) (hole_behind end)) result
+      → IfErr result (WantsEnd end) → IfErr result (λ stop. StopsInside bytes stop) → ScalarAnswered result
   word_answered (Ok v) no_string f wants inside =
       without_stop (scalar_read f (scalar_by _ f.is) (word_level level (text_at bytes at) _ f.is))
   word_answered (Err stop) no_string f wants inside = go stop.why stop.at f.0 f.1 wants inside

@@ -2,7 +2,6 @@
 use Rattle.std.proofs.Common.{inl, inr, ◌≡◌, ℕ, Bool, true, false, cond, List, [], ◌∷◌, length, refl, ap, sym, ◌∙◌}
 use Rattle.std.proofs.Common.{arith, encode_utf8_all, Option, Some, None, Result, Ok, Err}
 use Rattle.std.specs.Str.{IsUtf8, IsCharBoundary}
-use Rattle.std.specs.Cow.{cow_str_bytes}
 use Rattle.std.proofs.lemmas.List.{nil_from_length}
 use Rattle.std.proofs.lemmas.Str.{encodes-IsAscii}
 use Rattle.basic_toml_tokens.specs.declared.error.Error.{Error}
@@ -13,7 +12,7 @@ use Rattle.basic_toml_tokens.specs.Text.{Text, text_at, run, after_run, is_keyli
 use Rattle.basic_toml_tokens.specs.Strings.{IsString}
 use Rattle.basic_toml_tokens.specs.Reading.{between, IsRun}
 use Rattle.basic_toml_tokens.specs.Copies.{is_copied}
-use Rattle.basic_toml_tokens.specs.String.{is_owned, IsSimple, IsQuoted, IsRefused}
+use Rattle.basic_toml_tokens.specs.String.{IsQuoted, IsRefused}
 use Rattle.basic_toml_tokens.proofs.TextBetweenOffsets.{length-between}
 use Rattle.basic_toml_tokens.proofs.StepIsTheFold.{offset_is}
 use Rattle.basic_toml_tokens.proofs.TokenIsUnique.{no_break}
@@ -33,9 +32,9 @@ use Rattle.basic_toml_read.specs.AtPlace.{Leaves}
 use Rattle.basic_toml_read.specs.Word.{value_offset}
 use Rattle.basic_toml_grammar.proofs.Grammar.StringsAreRead.{string_found, string_read}
 use Rattle.basic_toml_grammar.proofs.Grammar.CopiesAgree.{copies_agree}
-use Rattle.basic_toml_explain.proofs.TakenTokenStands.{keylike_small, run_over}
+use Rattle.basic_toml_explain.proofs.TakenTokenStands.{keylike_small}
 use Rattle.basic_toml_read.proofs.GoesOn.{then_from}
-use Rattle.basic_toml_read.proofs.WordIsRead.{run_small, word_text, word_stands, word_missing}
+use Rattle.basic_toml_read.proofs.WordIsRead.{run_small, word_text, word_stands}
 
 -- the bytes of a bare key
 pub bare_text : (bytes : List ℕ) (at end : ℕ) → IsRun is_keylike bytes at end
@@ -134,32 +133,18 @@ string_refused bytes at r is =
     why_by (λ why. MissesString why (text_at bytes at)) Value r.error tt (λ other. refused_none bytes at r is other)
 
 module _ (bytes : List ℕ) (at : ℕ) (whole : IsUtf8 bytes) (here : IsCharBoundary bytes at) where
-  abbrev value_to : ℕ → List ℕ → Bool → reader.Valued
+  abbrev pub value_to : ℕ → List ℕ → Bool → reader.Valued
   value_to end value copied =
       record { offset = at; value = sections.Raw.string value copied; rest = text_at bytes end }
 
-  string_to : (end : ℕ) {m : Bool} {value body : List ℕ} {copied : Bool} → IsCharBoundary bytes end
+  pub string_to : (end : ℕ) {m : Bool} {value body : List ℕ} {copied : Bool} → IsCharBoundary bytes end
       → IsString (text_at bytes at) at m value (text_at bytes end) → body ≡ encode_utf8_all value
       → copied ≡ is_copied m (between bytes at end)
       → string_value_at (text_at bytes at) ≡ Some (value_to end body copied)
   string_to end {m = m} {value = value} there s spelled is =
       then_from _ (string_found s) ∙ rw (spelled, is ∙ copies_agree bytes at end _ m value whole here there s) refl
 
-  pub string_value : (q : Quoted) → IsQuoted bytes at q
-      → string_value_at (text_at bytes at) ≡ Some (value_to q.end (cow_str_bytes q.val) (is_owned q.val))
-  string_value q s = string_to q.end s.boundary s.string s.spelled s.copied
-
-  pub simple_value : (body : List ℕ) (end : ℕ) → IsSimple bytes at body end
-      → string_value_at (text_at bytes at) ≡ Some (value_to end body false)
-  simple_value body end s = string_to end s.boundary s.string s.spelled (sym s.not_copied)
-
 -- words
-pub no_word_run : (bytes : List ℕ) (at : ℕ) → text_at bytes at ≡ after_run is_wordlike (text_at bytes at)
-    → (word_at (text_at bytes at) ≡ None) × (run is_wordlike (text_at bytes at) ≡ [])
-no_word_run bytes at e =
-    let none = run_over (text_at bytes at) (sym e) in
-    (word_missing (text_at bytes at) (ap word_value none), none)
-
 pub word_run : (bytes : List ℕ) (at end : ℕ) → IsUtf8 bytes → IsCharBoundary bytes at
     → Leaves bytes at end (after_run is_wordlike (text_at bytes at)) → (at ≡ end → ⊥)
     → (between bytes at end ≡ run is_wordlike (text_at bytes at)) × (run is_wordlike (text_at bytes at) ≡ [] → ⊥)
@@ -182,7 +167,3 @@ pub word_value_is : (bytes : List ℕ) (at end : ℕ) (word : List ℕ) (v : sec
 word_value_is bytes at end word v e some left told =
     rw e (word_stands bytes at (text_at bytes end) v (λ h. some (ap (run is_wordlike) h)) left
     (ap word_value (sym e) ∙ sym told))
-
-pub no_word_value : (bytes : List ℕ) (at : ℕ) (word : List ℕ) → word ≡ run is_wordlike (text_at bytes at)
-    → None ≡ word_value word → word_at (text_at bytes at) ≡ None
-no_word_value bytes at word e told = word_missing (text_at bytes at) (ap word_value (sym e) ∙ sym told)

@@ -1,6 +1,6 @@
 -- A reader hands sections out one after another: where it is then, and what is left.
 use Rattle.std.proofs.Common.{inl, ◌≡◌, ℕ, ◌+◌, ◌<◌, ◌≤◌, ◌==◌, true, false, List, [], ◌∷◌, ◌++◌, length, refl}
-use Rattle.std.proofs.Common.{arith, Option, Some, None, Ok, Err}
+use Rattle.std.proofs.Common.{arith, Option, Some, None, Err}
 use Rattle.std.proofs.lemmas.List.{nil_from_length}
 use Rattle.std.specs.Vec.{vec_len}
 use Rattle.basic_toml_tokens.specs.Text.{Text, folded}
@@ -18,9 +18,8 @@ use Rattle.basic_toml_read.specs.declared.section.Section as code
 use Rattle.basic_toml_read.specs.declared.values.Gathered.{Gathered}
 use Rattle.basic_toml_read.specs.SectionView.{rows_seen}
 use Rattle.basic_toml_read.specs.Gathers.{no_lines, lines_in, lines_of}
-use Rattle.basic_toml_read.specs.SectionsRead.{IsBehind, SoFar, IsReady, IsEmpty, IsStop, ReadsOn}
+use Rattle.basic_toml_read.specs.SectionsRead.{IsBehind, SoFar, IsEmpty, IsStop, ReadsOn}
 use Rattle.basic_toml_read.specs.SectionsRead.{left_after}
-use Rattle.basic_toml_read.proofs.ListsRead.{list_over}
 
 -- nothing is gathered
 pub none_gathered : (g : Gathered) → (vec_len g.rows == 0) ≡ true → (g.rows.items ≡ [] → g.parents.items ≡ [])
@@ -41,22 +40,13 @@ less_than_all bytes None rest n = omega arith
 less_than_all bytes (Some at) rest n =
     let (x, line, is, here, b, some) = n in omega (arith, b.0)
 
--- reading stops, and at the end of the text there is no section more
+-- reading stops
 pub stops_on : {old new : SectionReader} {s : code.Section} (stop : Stop) → new.text ≡ old.text
     → ((list : List Section) → SoFar old list → IsStop old.text.now stop) → ReadsOn old new s (Err stop)
 stops_on stop same is = record {
   read = λ list so_far. rw same (is list so_far);
   ready = tt;
   text = same;
-  later = λ e. cc;
-}
-
-pub ends_on : {reader : SectionReader} {s : code.Section} → reader.place ≡ Behind None → IsReady reader
-    → ReadsOn reader reader s (Ok false)
-ends_on {reader = reader} is ready = record {
-  read = λ list so_far. list_over reader.text.now list (rw is at so_far);
-  ready = ready;
-  text = refl;
   later = λ e. cc;
 }
 

@@ -1,10 +1,13 @@
-use Rattle.std.proofs.Common.{arith}
+use Rattle.std.proofs.Common.{inr, ◌≤◌, length, refl, arith}
+use Rattle.basic_toml_tokens.proofs.StepIsTheFold.{text_end}
 use Rattle.basic_toml_tokens.proofs.RestsArePartsOfText.{over_at_end}
-use Rattle.basic_toml_read.proofs.LeftAfter.{line_ends, line_goes_on}
+use Rattle.basic_toml_read.proofs.LeftAfter.{line_goes_on}
 use Rattle.basic_toml_read.proofs.front.after_line.Goals as goal
 
 pub returns-then-at-text : goal.returns-then-at-text
-returns-then-at-text c = line_ends c.args.text.now c.args.at (omega arith) c.requires
+returns-then-at-text c =
+    let over : length c.args.text.now ≤ c.args.at = omega arith in
+    (rw (text_end c.args.text.now c.args.at over) refl, c.requires, omega arith, inr over)
 
 pub returns : goal.returns
 returns c =

@@ -2,8 +2,9 @@ use Rattle.std.proofs.Common.{inr, ap, ◌∙◌, refl, true, false, Err, arith}
 use Rattle.basic_toml_tokens.specs.Text.{text_at}
 use Rattle.basic_toml_grammar.proofs.Nesting.WithinTheLimit.{no_header_there}
 use Rattle.basic_toml_read.proofs.StandsIn.{is_err}
+use Rattle.basic_toml_read.proofs.EnoughSteps.{header_is}
 use Rattle.basic_toml_read.proofs.GoesOn.{then_from}
-use Rattle.basic_toml_read.proofs.HeadersRead.{Opened, by_bracket, closed, half_closed, no_bracket, no_header_keys}
+use Rattle.basic_toml_read.proofs.HeadersRead.{Opened, by_bracket, closed, half_closed, no_header_keys}
 use Rattle.basic_toml_read.proofs.HeadersRead.{one_bracket, two_brackets, unclosed}
 use Rattle.basic_toml_read.proofs.header.header_at.Goals.{After-after_blanks, After-after_blanks-in-Some}
 use Rattle.basic_toml_read.proofs.header.header_at.Goals as goal
@@ -18,7 +19,7 @@ pub returns-in_err-inner : goal.returns-in_err-inner
 returns-in_err-inner c =
     let e = c.in_err-inner.ensures.read in
     rw (is_err c.from_residual.ensures.1 ∙ ap (λ s. Err s) e.1) (record {
-      read = no_bracket (text_at c.args.text.now c.args.at) e.0;
+      read = header_is (text_at c.args.text.now c.args.at) ∙ then_from _ e.0;
       inside = inr c.requires.boundary;
       deep = λ p d. no_header_there e.0 d;
       hole = λ some. absurd (some e.0);

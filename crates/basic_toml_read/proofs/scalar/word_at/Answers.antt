@@ -8,27 +8,27 @@ use Rattle.basic_toml_tokens.specs.Reading.{between}
 use Rattle.basic_toml_grammar.specs.Sections.{Raw}
 use Rattle.basic_toml_read.specs.declared.section.Raw.{the_lemmas}
 use Rattle.basic_toml_read.specs.Word.{raw_of}
-use Rattle.basic_toml_read.proofs.ScalarsRead.{no_word_run, word_run, word_value_is, no_word_value}
-use Rattle.basic_toml_read.proofs.WordIsRead.{digits_here}
+use Rattle.basic_toml_read.proofs.ScalarsRead.{word_run, word_value_is}
+use Rattle.basic_toml_read.proofs.WordIsRead.{digits_here, word_missing}
+use Rattle.basic_toml_explain.proofs.TakenTokenStands.{run_over}
+use Rattle.basic_toml_grammar.specs.Grammar.{word_value}
 use Rattle.basic_toml_read.proofs.scalar.word_at.Goals.{in-Some+else-ends_word, in-None}
 use Rattle.basic_toml_read.proofs.scalar.word_at.Goals as goal
 
 pub returns-then-at-after-clause-read : goal.returns-then-at-after-clause-read
 returns-then-at-after-clause-read c =
-    let l = c.end_of_word-after.ensures in
-    (no_word_run c.args.text.now c.args.at (ap (text_at c.args.text.now) c.if-at-after.true ∙ l.left), λ _. refl)
+    let text = text_at c.args.text.now c.args.at in
+    let same = ap (text_at c.args.text.now) c.if-at-after.true ∙ c.end_of_word-after.ensures.left in
+    let none = run_over text (sym same) in
+    ((word_missing text (ap word_value none), none), λ _. refl)
 
 pub returns-in_default-clause-read : goal.returns-in_default-clause-read
 returns-in_default-clause-read c =
     let word = word_run c.args.text.now c.args.at c.end_of_word-after.result c.utf8.text c.requires
     c.end_of_word-after.ensures c.if-at-after.false in
-    let told = sym (ap (option_map raw_of) c.in_default.is) ∙ c.in_ok-value.ensures in (
-      (
-        no_word_value c.args.text.now c.args.at c.range-word.result.now (c.range-word.ensures.value ∙ word.0) told,
-        word.1,
-      ),
-      λ _. refl,
-    )
+    let told = sym (ap (option_map raw_of) c.in_default.is) ∙ c.in_ok-value.ensures in
+    let same = ap word_value (sym (c.range-word.ensures.value ∙ word.0)) in
+    ((word_missing (text_at c.args.text.now c.args.at) (same ∙ sym told), word.1), λ _. refl)
 
 pub returns-clause-read : goal.returns-clause-read
 returns-clause-read c =

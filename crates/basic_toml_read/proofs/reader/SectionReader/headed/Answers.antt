@@ -4,13 +4,19 @@ use Rattle.basic_toml_read.specs.Gathers.{lines_view}
 use Rattle.basic_toml_read.specs.SectionsRead.{left_at, left_to_read}
 use Rattle.basic_toml_read.specs.declared.reader.Place.TheVariants.{Behind}
 use Rattle.basic_toml_read.proofs.StandsIn.{is_err}
-use Rattle.basic_toml_read.proofs.ListsRead.{bracket_stands, falls, list_more, list_stops}
-use Rattle.basic_toml_read.proofs.SectionsHandedOut.{none_in, stops_on, ends_on}
+use Rattle.basic_toml_read.proofs.ListsRead.{bracket_stands, falls, list_more, list_over, list_stops}
+use Rattle.basic_toml_read.proofs.SectionsHandedOut.{none_in, stops_on}
 use Rattle.basic_toml_read.proofs.reader.SectionReader.headed.Goals as goal
 
 -- the end of the text
 pub returns-in_default : goal.returns-in_default
-returns-in_default c = ends_on (c.requires.behind ∙ ap (λ o. Behind o) c.in_default.is) c.requires.ready
+returns-in_default c = record {
+  read = λ list so_far.
+      list_over c.args.self.now.text.now list (rw (c.requires.behind ∙ ap (λ o. Behind o) c.in_default.is) at so_far);
+  ready = c.requires.ready;
+  text = refl;
+  later = λ e. cc;
+}
 
 pub returns-in_err-header : goal.returns-in_err-header
 returns-in_err-header c =

@@ -16,7 +16,7 @@ use Rattle.basic_toml_read.proofs.ElementsGathered.{elements_start, elements_end
 use Rattle.basic_toml_read.proofs.ElementsGathered.{elements_close}
 use Rattle.basic_toml_read.proofs.FieldsGathered.{fields_start, fields_none, fields_missing, fields_more, fields_close}
 use Rattle.basic_toml_read.proofs.NothingTooDeep.{its_row, its_value, row_keys}
-use Rattle.basic_toml_read.proofs.AfterKeys.{keys_missed, no_equals, no_equals_in_row, row_there, row_unassigned}
+use Rattle.basic_toml_read.proofs.AfterKeys.{keys_missed, no_equals, row_there}
 use Rattle.basic_toml_read.proofs.AfterKeys.{to_its_value, value_deep, value_missing}
 use Rattle.basic_toml_read.proofs.InBrackets.{added_to, array_answered, inline_answered}
 use Rattle.basic_toml_read.proofs.ViewsSeen.{array_of}
@@ -105,14 +105,7 @@ row-returns-in_err-last t c =
     })
 
 pub row-returns-in_default : goal.row-returns-in_default
-row-returns-in_default t c =
-    let k = c.in_ok-last.ensures.read in
-    record {
-      read = no_equals k c.in_default.ensures;
-      inside = search rules;
-      deep = row_unassigned k c.in_default.ensures;
-      hole = no_equals_in_row k c.in_default.ensures (hole_behind c.args.end);
-    }
+row-returns-in_default t c = no_equals c.in_ok-last.ensures.read c.in_default.ensures (hole_behind c.args.end)
 
 pub row-returns-in_err-valued : goal.row-returns-in_err-valued
 row-returns-in_err-valued t c =
@@ -147,15 +140,18 @@ pub value-returns-then-begins_string : goal.value-returns-then-begins_string
 value-returns-then-begins_string t c =
     let begins = c.if-begins_string.ensures in
     let r = c.string_value_at in
-    string_answered c.args.text.now c.args.at c.args.level c.args.end c.args.self.now c.in_default.ensures
-    c.in_default-after_punctuation.ensures r.result begins.2 begins.3 r.ensures.read r.ensures.inside
+    let here = text_at c.args.text.now c.args.at in
+    string_answered c.args.text.now c.args.at c.args.level c.args.end c.args.self.now
+    (sign_missing 91 here c.in_default.ensures) (sign_missing 123 here c.in_default-after_punctuation.ensures) r.result
+    begins.2 begins.3 r.ensures.read r.ensures.inside
 
 pub value-returns : goal.value-returns
 value-returns t c =
     let r = c.word_at in
-    word_answered c.args.text.now c.args.at c.args.level c.args.end c.args.self.now c.in_default.ensures
-    c.in_default-after_punctuation.ensures r.result c.if-begins_string.ensures r.ensures.read r.ensures.wanted
-    r.ensures.inside
+    let here = text_at c.args.text.now c.args.at in
+    word_answered c.args.text.now c.args.at c.args.level c.args.end c.args.self.now
+    (sign_missing 91 here c.in_default.ensures) (sign_missing 123 here c.in_default-after_punctuation.ensures) r.result
+    c.if-begins_string.ensures r.ensures.read r.ensures.wanted r.ensures.inside
 
 -- an array
 pub array-returns-in_err-raise : goal.array-returns-in_err-raise

@@ -1,11 +1,12 @@
-use Rattle.std.proofs.Common.{◌≡◌, ◌∙◌, ap, arith, None, Err}
+use Rattle.std.proofs.Common.{◌≡◌, sym, ◌∙◌, ap, arith, None, Err}
 use Rattle.basic_toml_tokens.specs.Punctuation.{IsPunctuationEnd}
-use Rattle.basic_toml_tokens.specs.Text.{text_at}
+use Rattle.basic_toml_tokens.specs.Text.{text_at, is_comment}
+use Rattle.basic_toml_grammar.specs.Grammar.{after_comment_by}
 use Rattle.basic_toml_grammar.specs.Reader.{end_of, line_end_at}
 use Rattle.basic_toml_read.proofs.StandsIn.{is_err}
-use Rattle.basic_toml_read.proofs.LeftAfter.{line_of}
-use Rattle.basic_toml_read.proofs.RowsRead.{NoHeader, bracket_no_gap, comment_line, comment_stops, line_here}
-use Rattle.basic_toml_read.proofs.RowsRead.{other_line, row_stops, rows_bracket, rows_empty, rows_more, rows_over}
+use Rattle.basic_toml_read.proofs.LeftAfter.{line_of, no_comment}
+use Rattle.basic_toml_read.proofs.RowsRead.{NoHeader, bracket_no_gap, comment_stops, line_here}
+use Rattle.basic_toml_read.proofs.RowsRead.{row_stops, rows_bracket, rows_empty, rows_more, rows_over}
 use Rattle.basic_toml_read.proofs.RowsRead.{rows_start, sign_lacks, sign_stands, unended_stops}
 use Rattle.basic_toml_read.proofs.values.Gathered.rows.Goals.{After-after_comment, Else-is_some, Else-is_some-2}
 use Rattle.basic_toml_read.proofs.values.Gathered.rows.Goals as goal
@@ -23,8 +24,7 @@ no_header c = record {
 comment : (c : After-after_comment) → line_of (text_at c.args.text.now c.loop-at.at)
     ≡ text_at c.args.text.now c.after_comment.result
 comment c =
-    comment_line c.args.text.now c.loop-at.at c.after_blanks-front.result c.after_comment.result
-    c.after_blanks-front.ensures c.after_comment.ensures
+    ap (after_comment_by is_comment) (sym c.after_blanks-front.ensures.left) ∙ sym c.after_comment.ensures.left
 
 -- one without a comment at its front
 no_hash : (c : Else-is_some-2) → IsPunctuationEnd 35 c.args.text.now c.after_blanks-front.result None
@@ -35,7 +35,8 @@ no_hash c =
 same_end : (c : Else-is_some-2) → line_end_at (text_at c.args.text.now c.loop-at.at)
     ≡ end_of (text_at c.args.text.now c.after_blanks-front.result)
 same_end c =
-    other_line c.args.text.now c.loop-at.at c.after_blanks-front.result c.after_blanks-front.ensures (no_hash c)
+    ap end_of (ap (after_comment_by is_comment) (sym c.after_blanks-front.ensures.left)
+    ∙ no_comment (text_at c.args.text.now c.after_blanks-front.result) (no_hash c))
 
 pub loop-at-init : goal.loop-at-init
 loop-at-init c = rows_start c.args.text.now c.args.start c.args.level c.args.self.now c.requires.boundary
