@@ -1,8 +1,8 @@
 -- What is left of a text after blanks, comments, gaps and words.
-use Rattle.std.proofs.Common.{inl, ◌≡◌, ℕ, ◌==◌, ◌||◌, Bool, true, false, cond, List, [], ◌∷◌}
+use Rattle.std.proofs.Common.{inl, inr, ◌≡◌, ℕ, ◌==◌, ◌||◌, true, false, cond, List, [], ◌∷◌}
 use Rattle.std.proofs.Common.{refl, ap, sym, ◌∙◌, arith, Option, Some, None, is_some, eqb-true}
 use Rattle.std.proofs.lemmas.Bool.Decides.{nat_tests}
-use Rattle.std.proofs.lemmas.Bool.{eq-eqb, false≢true, or_from, or_right}
+use Rattle.std.proofs.lemmas.Bool.{cases_Bool, eq-eqb, or_from}
 use Rattle.basic_toml_tokens.specs.Text.{Text, StartsWith, text_at, run, after_run, is_blank, is_keylike, is_comment}
 use Rattle.basic_toml_tokens.specs.Text.{after_blanks}
 use Rattle.basic_toml_tokens.specs.Strings.{is_quote}
@@ -42,12 +42,11 @@ line_goes_on bytes at None some e = no_end (text_at bytes at) e some
 -- gaps
 pub gap_past_blanks : (text : Text) → after_gap is_comment (after_blanks text) ≡ after_gap is_comment text
 gap_past_blanks [] = refl
-gap_past_blanks (x ∷ text) = go (is_blank x.1) refl (gap_past_blanks text)
-  where
-    go : (b : Bool) → is_blank x.1 ≡ b → after_gap is_comment (after_blanks text) ≡ after_gap is_comment text
-        → after_gap is_comment (cond b (after_blanks text) (x ∷ text)) ≡ after_gap is_comment (x ∷ text)
-    go true e h = h ∙ sym (rw e refl)
-    go false e h = refl
+gap_past_blanks (x ∷ text) =
+    elim (cases_Bool (is_blank x.1)) [
+      | inl e ↦ rw e (gap_past_blanks text)
+      | inr e ↦ (let same : after_blanks (x ∷ text) ≡ x ∷ text = rw e refl in ap (after_gap is_comment) same)
+    ]
 
 -- what a comment does not hold ends it, and is no gap but for a line feed
 not_comment : (c : ℕ) → is_comment c ≡ false → (c == 10) ≡ false → ((is_blank c || c == 10) ≡ false)
@@ -56,26 +55,26 @@ not_comment c e f = (grind (arith, nat_tests, or_from), grind (arith, nat_tests)
 
 in_comment : (text : Text) → after_gap_from is_comment true text ≡ after_gap is_comment (after_run is_comment text)
 in_comment [] = refl
-in_comment (x ∷ text) = go (x.1 == 10) refl (is_comment x.1) refl (in_comment text)
-  where
-    go : (a : Bool) → (x.1 == 10) ≡ a → (b : Bool) → is_comment x.1 ≡ b
-        → after_gap_from is_comment true text ≡ after_gap is_comment (after_run is_comment text)
-        → cond a (after_gap_from is_comment false text) (cond b (after_gap_from is_comment true text) (x ∷ text))
-        ≡ after_gap is_comment (cond b (after_run is_comment text) (x ∷ text))
-    go true e true f h = absurd (false≢true (ap is_comment (sym (eqb-true x.1 10 e)) ∙ f))
-    go true e false f h = sym (rw (or_right (is_blank x.1) (x.1 == 10) e) refl)
-    go false e true f h = h
-    go false e false f h = let no = not_comment x.1 f e in sym (rw (no.0, no.1) refl)
+in_comment (x ∷ text) =
+    elim (cases_Bool (x.1 == 10)) [
+      | inl e ↦ rw (eqb-true x.1 10 e) refl
+      | inr e ↦ elim (cases_Bool (is_comment x.1)) [
+        | inl f ↦ rw (e, f) (in_comment text)
+        | inr f ↦ (let no = not_comment x.1 f e in
+            let there : after_gap is_comment (x ∷ text) ≡ x ∷ text = rw (no.0, no.1) refl in
+            rw (e, f) (sym there))
+      ]
+    ]
 
 pub gap_past_comment : (text : Text)
     → after_gap is_comment (after_comment_by is_comment text) ≡ after_gap is_comment text
 gap_past_comment [] = refl
-gap_past_comment (x ∷ text) = go (x.1 == 35) refl
-  where
-    go : (b : Bool) → (x.1 == 35) ≡ b
-        → after_gap is_comment (cond b (after_run is_comment text) (x ∷ text)) ≡ after_gap is_comment (x ∷ text)
-    go true e = sym (in_comment text) ∙ sym (rw (eqb-true x.1 35 e) refl)
-    go false e = refl
+gap_past_comment (x ∷ text) =
+    elim (cases_Bool (x.1 == 35)) [
+      | inl e ↦ rw (eqb-true x.1 35 e) (sym (in_comment text))
+      | inr e ↦ (let same : after_comment_by is_comment (x ∷ text) ≡ x ∷ text = rw e refl in
+          ap (after_gap is_comment) same)
+    ]
 
 abbrev pub line_of : Text → Text
 line_of text = after_comment_by is_comment (after_blanks text)
@@ -105,14 +104,10 @@ gap_stops text e = go (after_blanks text) (blank_stops text) e
         → after_run (λ c. c == 10) (after_comment_by is_comment t) ≡ after_comment_by is_comment t
         → after_gap is_comment (after_comment_by is_comment t) ≡ after_comment_by is_comment t
     go [] h k = refl
-    go (x ∷ t) h k = at (x.1 == 35) refl k
-      where
-        at : (b : Bool) → (x.1 == 35) ≡ b
-            → after_run (λ c. c == 10) (cond b (after_run is_comment t) (x ∷ t))
-            ≡ cond b (after_run is_comment t) (x ∷ t)
-            → after_gap is_comment (cond b (after_run is_comment t) (x ∷ t)) ≡ cond b (after_run is_comment t) (x ∷ t)
-        at true f k = after (after_run is_comment t) (after_twice is_comment t) k
-        at false f k = stands x t (fails_first (λ c. c == 10) x t k) (fails_first is_blank x t h) f
+    go (x ∷ t) h k = elim (cases_Bool (x.1 == 35)) [
+      | inl f ↦ rw f (after (after_run is_comment t) (after_twice is_comment t) (rw f at k))
+      | inr f ↦ rw f (stands x t (fails_first (λ c. c == 10) x t (rw f at k)) (fails_first is_blank x t h) f)
+    ]
 
 -- nor does one begin where neither a blank nor a line feed nor a comment stands
 pub gap_stands : (text : Text) → after_blanks text ≡ text → after_run (λ c. c == 10) text ≡ text
@@ -167,31 +162,26 @@ quote_begins bytes at next s =
 pub gap_over : (text next : Text) → end_of text ≡ Some next → after_gap is_comment text ≡ []
     → after_gap is_comment next ≡ []
 gap_over [] next e gap = let same : [] ≡ next = cc in ap (after_gap is_comment) (sym same)
-gap_over (x ∷ text) next e gap = go (x.1 == 10) refl e
-  where
-    go : (b : Bool) → (x.1 == 10) ≡ b → cond b (Some text) None ≡ Some next → after_gap is_comment next ≡ []
-    go true k e =
-        let same : text ≡ next = cc in
-        let s : StartsWith 10 (x ∷ text) x.0 text = ap (λ (c : ℕ). (x.0, c) ∷ text) (eqb-true x.1 10 k) in
-        ap (after_gap is_comment) (sym same) ∙ gap_past_feed s ∙ gap
-    go false k e = cc
+gap_over (x ∷ text) next e gap =
+    elim (cases_Bool (x.1 == 10)) [
+      | inl k ↦ (let there = rw k at e in
+          let same : text ≡ next = cc in
+          let s : StartsWith 10 (x ∷ text) x.0 text = ap (λ (c : ℕ). (x.0, c) ∷ text) (eqb-true x.1 10 k) in
+          ap (after_gap is_comment) (sym same) ∙ gap_past_feed s ∙ gap)
+      | inr k ↦ (let there = rw k at e in cc)
+    ]
 
 no_feed_there : (text : Text) → end_of text ≡ None → after_run (λ c. c == 10) text ≡ text
 no_feed_there [] e = cc
-no_feed_there (x ∷ text) e = go (x.1 == 10) refl e
-  where
-    go : (b : Bool) → (x.1 == 10) ≡ b → cond b (Some text) None ≡ None
-        → cond b (after_run (λ c. c == 10) text) (x ∷ text) ≡ x ∷ text
-    go true k e = cc
-    go false k e = refl
+no_feed_there (x ∷ text) e =
+    elim (cases_Bool (x.1 == 10)) [ | inl k ↦ (let there = rw k at e in cc) | inr k ↦ rw k refl ]
 
 pub gap_ends_line : (text : Text) → end_of (line_of text) ≡ None → after_gap is_comment text ≡ [] → ⊥
 gap_ends_line text e gap =
     let over : line_of text ≡ [] =
     sym (gap_stops text (no_feed_there (line_of text) e)) ∙ gap_past_line text ∙ gap in
-    let z : None ≡ Some [] = sym e ∙ ap end_of over in cc
+    cc (e, ap end_of over)
 
 pub gap_has_no_bracket : {p : ℕ} {rest : Text} (text : Text) → StartsWith 91 (after_blanks text) p rest
     → after_gap is_comment text ≡ [] → ⊥
-gap_has_no_bracket {p = p} {rest = rest} text s gap =
-    let z : (p, 91) ∷ rest ≡ [] = sym (ap (after_gap is_comment) s) ∙ gap_past_blanks text ∙ gap in cc
+gap_has_no_bracket text s gap = cc (sym (ap (after_gap is_comment) s) ∙ gap_past_blanks text ∙ gap)

@@ -1,31 +1,22 @@
 -- What `sections` answers: the list that is read, or why there is none.
-use Rattle.std.proofs.Common.{inl, inr, ◌≡◌, ◌<◌, ℕ, List, sym, ◌∙◌, subst, Some, None}
+use Rattle.std.proofs.Common.{inl, inr, ◌<◌, ℕ, List, sym, subst}
 use Rattle.std.specs.Prelude.{IsUtf8}
 use Rattle.basic_toml_value.specs.Nesting.{nesting_limit}
 use Rattle.basic_toml_tokens.specs.Text.{folded}
 use Rattle.basic_toml_grammar.specs.Faults.{Fault}
 use Rattle.basic_toml_grammar.specs.Levels.{highest_level}
-use Rattle.basic_toml_grammar.specs.DeepStops.{DeepStop, IsWithin}
+use Rattle.basic_toml_grammar.specs.DeepStops.{DeepStop}
 use Rattle.basic_toml_grammar.specs.Reader.{section_list_of}
 use Rattle.basic_toml_explain.specs.declared.stop.Stop.{Stop}
 use Rattle.basic_toml_explain.specs.declared.stop.Why.{Why}
 use Rattle.basic_toml_explain.specs.declared.stop.Why.TheVariants.{Memory, Deep}
-use Rattle.basic_toml_explain.specs.Explain.{IsDue, IsOutside, ExplainsWhy}
+use Rattle.basic_toml_explain.specs.Explain.{ExplainsWhy}
 use Rattle.basic_toml_read.specs.StopsAt.{Misses}
 use Rattle.basic_toml_read.specs.SectionsRead.{IsStop}
 use Rattle.basic_toml_read.specs.StopsReached.{AtDeep}
 use Rattle.basic_toml_read.specs.SectionsAnswer.{HoldsMore, IsRefused, memory, deep, outside}
 use Rattle.basic_toml_grammar.proofs.Grammar.ReaderIsComplete.{list_found}
 use Rattle.basic_toml_grammar.proofs.Nesting.DeepStopsAreTooDeep.{deep_stops_are_too_deep}
-
-none_found : (bytes : List ℕ) → section_list_of (folded bytes) ≡ None → IsOutside bytes
-none_found bytes none sections g =
-    let z : None ≡ Some sections = sym none ∙ list_found (folded bytes) sections g in cc
-
-of_grammar : (bytes : List ℕ) (fault : Fault) → HoldsMore (folded bytes) → section_list_of (folded bytes) ≡ None
-    → IsWithin nesting_limit (folded bytes) → IsDue bytes fault → IsRefused bytes fault
-of_grammar bytes fault more none within (inl m) = subst (IsRefused bytes) (sym m) (memory more)
-of_grammar bytes fault more none within (inr s) = outside (s (none_found bytes none)) within
 
 why_answered : (bytes : List ℕ) (w : Why) (at : ℕ) (fault : Fault) → IsUtf8 bytes → HoldsMore (folded bytes)
     → AtDeep (DeepStop nesting_limit (folded bytes)) w at
@@ -35,7 +26,9 @@ why_answered bytes Memory at fault u more low m e = subst (IsRefused bytes) (sym
 why_answered bytes Deep at fault u more low m e =
     subst (IsRefused bytes) (sym e) (deep (λ sections g. m sections (list_found (folded bytes) sections g))
     (deep_stops_are_too_deep nesting_limit at bytes u low) low)
-why_answered bytes _ at fault u more low m e = of_grammar bytes fault more m low e
+why_answered bytes _ at fault u more low m (inl e) = subst (IsRefused bytes) (sym e) (memory more)
+why_answered bytes _ at fault u more low m (inr e) =
+    outside (e (λ sections g. cc (m, list_found (folded bytes) sections g))) low
 
 -- the error of a stop is one that the text allows
 pub stop_answered : (bytes : List ℕ) (stop : Stop) (fault : Fault) → IsUtf8 bytes → IsStop bytes stop

@@ -1,5 +1,5 @@
 -- Where what is read first is missing, only that is too deep.
-use Rattle.std.proofs.Common.{◌≡◌, ◌≤◌, ◌+◌, ◌*◌, ℕ, suc, Bool, List, length, ap, sym, ◌∙◌, arith, Some, None}
+use Rattle.std.proofs.Common.{◌≡◌, ◌≤◌, ◌+◌, ◌*◌, ℕ, suc, Bool, List, length, ap, sym, ◌∙◌, arith, None}
 use Rattle.basic_toml_value.specs.Nesting.{nesting_limit}
 use Rattle.basic_toml_tokens.specs.Text.{Text, is_comment, after_blanks}
 use Rattle.basic_toml_grammar.specs.Sections.{Key, Raw, Rows}
@@ -18,19 +18,16 @@ use Rattle.basic_toml_grammar.proofs.Nesting.WithinTheLimit as within
 row_absent : {text mid : Text} {q : ℕ} {ks : List Key} {v : Raw} → row_of text ≡ None
     → IsRow is_comment text ks q v mid → ⊥
 unfolding row_of
-row_absent {text = text} n w =
-    let z : None ≡ Some _ = sym n ∙ row_found (4 * length text + 1) w (omega arith) in cc
+row_absent {text = text} n w = cc (n, row_found (4 * length text + 1) w (omega arith))
 
 rows_absent : {text rest : Text} {rs : Rows} → rows_of text ≡ None → IsRows is_comment text rs rest → ⊥
 unfolding rows_of
-rows_absent {text = text} n rs =
-    let z : None ≡ Some _ = sym n ∙ rows_found (4 * length text + 3) rs (omega arith) in cc
+rows_absent {text = text} n rs = cc (n, rows_found (4 * length text + 3) rs (omega arith))
 
 header_absent : {text rest : Text} {q : ℕ} {ks : List Key} {a : Bool} → header_of text ≡ None
     → IsHeader text q ks a rest → ⊥
 unfolding header_of
-header_absent {text = text} n w =
-    let z : None ≡ Some _ = sym n ∙ header_found (suc (length text)) w (omega arith) in cc
+header_absent {text = text} n w = cc (n, header_found (suc (length text)) w (omega arith))
 
 -- a row
 pub row_keys : {l p : ℕ} {text : Text} → keys_of text ≡ None → DeepRow nesting_limit l text p
@@ -38,15 +35,14 @@ pub row_keys : {l p : ℕ} {text : Text} → keys_of text ≡ None → DeepRow n
 unfolding keys_of
 row_keys n (deep.keys d) = d
 row_keys {text = text} n (deep.value ks h s d) =
-    let z : None ≡ Some _ = sym n ∙ keys_found (suc (length text)) ks (ap (char_at 46) s) (omega arith) in cc
+    cc (n, keys_found (suc (length text)) ks (ap (char_at 46) s) (omega arith))
 
 -- an element
 pub its_value : {l p : ℕ} {text : Text} → value_of text ≡ None → DeepElements nesting_limit l text p
     → DeepValue nesting_limit l text p
 unfolding value_of
 its_value n (deep.this_element d) = d
-its_value {text = text} n (deep.later_element v h s d) =
-    let z : None ≡ Some _ = sym n ∙ value_found (4 * length text + 1) v (omega arith) in cc
+its_value {text = text} n (deep.later_element v h s d) = cc (n, value_found (4 * length text + 1) v (omega arith))
 
 -- a row of an inline table
 pub its_row : {l p : ℕ} {text : Text} → row_of text ≡ None → DeepFields nesting_limit l text p

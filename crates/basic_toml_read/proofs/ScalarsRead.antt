@@ -1,7 +1,8 @@
 -- Keys, strings and words at an offset, against the grammar.
-use Rattle.std.proofs.Common.{inl, inr, ◌≡◌, ℕ, Bool, true, false, cond, List, [], ◌∷◌, length, refl, ap, sym, ◌∙◌}
+use Rattle.std.proofs.Common.{inl, inr, ◌≡◌, ℕ, Bool, List, [], ◌∷◌, length, refl, ap, sym, ◌∙◌}
 use Rattle.std.proofs.Common.{arith, encode_utf8_all, Option, Some, None, Result, Ok, Err}
 use Rattle.std.specs.Str.{IsUtf8, IsCharBoundary}
+use Rattle.std.proofs.lemmas.Bool.{cases_Bool}
 use Rattle.std.proofs.lemmas.List.{nil_from_length}
 use Rattle.std.proofs.lemmas.Str.{encodes-IsAscii}
 use Rattle.basic_toml_tokens.specs.declared.error.Error.{Error}
@@ -50,13 +51,11 @@ no_bare bytes at end r e = sym (bare_text bytes at end r) ∙
 bare_found : (text : Text) (p : ℕ) → ((x : ℕ × ℕ) (t : Text) → text ≡ x ∷ t → x.0 ≡ p) → (run is_keylike text ≡ [] → ⊥)
     → key_at text ≡ Some (record { offset = p; text = run is_keylike text }, after_run is_keylike text)
 bare_found [] p offset some = absurd (some refl)
-bare_found (x ∷ text) p offset some = go (is_keylike x.1) refl some
-  where
-    go : (b : Bool) → is_keylike x.1 ≡ b → (cond b (x.1 ∷ run is_keylike text) [] ≡ [] → ⊥)
-        → key_at (x ∷ text) ≡ Some
-        (record { offset = p; text = run is_keylike (x ∷ text) }, after_run is_keylike (x ∷ text))
-    go false e some = absurd (some refl)
-    go true e some = rw (e, offset x text refl) refl
+bare_found (x ∷ text) p offset some =
+    elim (cases_Bool (is_keylike x.1)) [
+      | inl e ↦ rw (e, offset x text refl) refl
+      | inr e ↦ absurd (some (rw e refl))
+    ]
 
 pub bare_key : (bytes : List ℕ) (at end : ℕ) (key : KeyText) → IsRun is_keylike bytes at end → (at ≡ end → ⊥)
     → key_text_bytes key ≡ between bytes at end
@@ -75,11 +74,8 @@ bare_key bytes at end key r some e =
 -- where no bare key stands
 no_bare_key : (text : Text) → run is_keylike text ≡ [] → bare_key_at text ≡ None
 no_bare_key [] e = refl
-no_bare_key (x ∷ text) e = go (is_keylike x.1) refl e
-  where
-    go : (b : Bool) → is_keylike x.1 ≡ b → cond b (x.1 ∷ run is_keylike text) [] ≡ [] → bare_key_at (x ∷ text) ≡ None
-    go true h e = cc
-    go false h e = rw h refl
+no_bare_key (x ∷ text) e =
+    elim (cases_Bool (is_keylike x.1)) [ | inl h ↦ (let there = rw h at e in cc) | inr h ↦ rw h refl ]
 
 key_by_string : (text : Text) (o : Option reader.Quoted) → run is_keylike text ≡ [] → string_at text ≡ o
     → key_at text ≡ and_then o quoted_key

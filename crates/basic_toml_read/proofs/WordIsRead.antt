@@ -1,11 +1,11 @@
 -- Words as values, against the grammar.
-use Rattle.std.proofs.Common.{inl, inr, ◌≡◌, ℕ, zero, suc, ◌+◌, ◌<◌, ◌≤◌, ◌==◌, Bool, true, false, cond, List, ℤ, ◌-◌}
+use Rattle.std.proofs.Common.{inl, inr, ◌≡◌, ℕ, zero, suc, ◌+◌, ◌<◌, ◌≤◌, ◌==◌, Bool, true, false, List, ℤ, ◌-◌}
 use Rattle.std.proofs.Common.{[], ◌∷◌, length, take, drop, get_or, refl, ap, sym, ◌∙◌, arith, Option, Some, None}
 use Rattle.std.specs.Prelude.{position, codes}
 use Rattle.std.specs.Str.{IsUtf8, IsCharBoundary, bytes_eq}
 use Rattle.std.specs.List.{list_all, prefix_len}
 use Rattle.std.proofs.lemmas.Str.{encodes-IsAscii, IsCharBoundary-after_ascii}
-use Rattle.std.proofs.lemmas.Bool.{and_parts, both_ways, or_from, cases_lt}
+use Rattle.std.proofs.lemmas.Bool.{and_parts, both_ways, cases_Bool, or_from, cases_lt}
 use Rattle.std.proofs.lemmas.List.{at_drop_more, length-drop, length-take-le}
 use Rattle.std.proofs.Math.Seq.{take-length}
 use Rattle.std.proofs.lemmas.List.Sums.{prefix_len-drop_yes}
@@ -41,13 +41,10 @@ wordlike_small c e = elim (cases_lt c 128) [
 pub run_small : (f : ℕ → Bool) → ((c : ℕ) → f c ≡ true → c < 128) → (text : Text) (i : ℕ)
     → get_or (run f text) i 0 < 128
 run_small f small [] i = omega arith
-run_small f small (x ∷ text) i = go (f x.1) refl i (run_small f small text)
-  where
-    go : (b : Bool) → f x.1 ≡ b → (i : ℕ) → ((i : ℕ) → get_or (run f text) i 0 < 128)
-        → get_or (cond b (x.1 ∷ run f text) []) i 0 < 128
-    go true e zero h = small x.1 e
-    go true e (suc i) h = h i
-    go false e i h = omega arith
+run_small f small (x ∷ text) zero =
+    elim (cases_Bool (f x.1)) [ | inl e ↦ rw e (small x.1 e) | inr e ↦ rw e (omega arith) ]
+run_small f small (x ∷ text) (suc i) =
+    elim (cases_Bool (f x.1)) [ | inl e ↦ rw e (run_small f small text i) | inr e ↦ rw e (omega arith) ]
 
 -- the bytes of a word
 pub word_text : (bytes : List ℕ) (start end : ℕ) → IsUtf8 bytes → IsCharBoundary bytes start
