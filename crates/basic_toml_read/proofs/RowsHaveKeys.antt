@@ -1,6 +1,7 @@
 -- Rows that the code reads have keys at every depth.
 use Rattle.std.proofs.Common.{◌≡◌, true, List, [], ◌∷◌, ◌++◌, map, take, drop, refl, subst, rules}
 use Rattle.std.specs.Prelude.{⊤}
+use mathlib.Core.List.{map-map}
 use Rattle.basic_toml_grammar.specs.Sections.{Key, Rows, no_rows, row}
 use Rattle.basic_toml_grammar.specs.Entering.{has_key, rows_keyed, keyed_within, value_keyed, elements_keyed}
 use Rattle.basic_toml_grammar.specs.Entering.{all_keyed_within}
@@ -46,28 +47,31 @@ lines_are_keyed parents (l ∷ ls) =
     one_more [] rows others = others
     one_more (k ∷ ks) rows others = others
 
-pub are_keyed : (rs : tables.Rows) → rows_keyed (rows_view rs) ≡ true
-are_keyed rs =
-    lines_are_keyed (map key_of (tables.out-Rows rs).parents.items) (map lined_of (tables.out-Rows rs).rows.items)
-
 pub rows_are_keyed : (parents : List keys.Key) (rows : List Row) → rows_keyed (rows_seen parents rows) ≡ true
 rows_are_keyed parents rows = lines_are_keyed (map key_of parents) (map lined_of rows)
+
+pub are_keyed : (rs : tables.Rows) → rows_keyed (rows_view rs) ≡ true
+are_keyed rs = rows_are_keyed (tables.out-Rows rs).parents.items (tables.out-Rows rs).rows.items
 
 elements_kept : (es : List ((e : Element) × OfElement e))
     → elements_keyed (elements_from (map placed_of (map (λ e. e.0) es))) ≡ true
 elements_kept [] = refl
 elements_kept (e ∷ es) = rw (e.1, elements_kept es) refl
 
-lines_kept : (parents : List Key) (rs : List ((r : Row) × OfRow r))
-    → keyed_within (rows_from parents (map lined_of (map (λ r. r.0) rs))) ≡ true
-lines_kept parents [] = refl
-lines_kept parents (r ∷ rs) =
+lines_kept : {A : Type 0} (line : A → Lined) → ((a : A) → value_keyed (line a).value ≡ true) → (parents : List Key)
+    (rs : List A) → keyed_within (rows_from parents (map line rs)) ≡ true
+lines_kept line kept parents [] = refl
+lines_kept line kept parents (r ∷ rs) =
     rw (
-      last_is_one (take (lined_of r.0).parents parents) (lined_of r.0).key,
-      r.1,
-      lines_kept (drop (lined_of r.0).parents parents) rs,
+      last_is_one (take (line r).parents parents) (line r).key,
+      kept r,
+      lines_kept line kept (drop (line r).parents parents) rs,
     )
     refl
+
+known_kept : (parents : List Key) (rs : List ((r : Row) × OfRow r))
+    → keyed_within (rows_from parents (map lined_of (map (λ r. r.0) rs))) ≡ true
+known_kept parents rs = rw map-map (lines_kept (λ r. lined_of r.0) (λ r. r.1) parents rs)
 
 -- that the parts of a value have keys
 abbrev Parts : Raw-F Raw Element Row tables.Rows → Type 0
@@ -105,7 +109,7 @@ Rows1 = (rs : tables.Rows) × OfRows rs
 parts_kept : (y : Raw-F Raw1 Element1 Row1 Rows1)
     → Parts (map-Raw Raw1 Element1 Row1 Rows1 Raw Element Row tables.Rows (λ e. e.0) (λ e. e.0) (λ e. e.0) (λ e. e.0) y)
 parts_kept (Raw-F.Array es) = elements_kept es.items
-parts_kept (Raw-F.Inline rs) = lines_kept [] rs.items
+parts_kept (Raw-F.Inline rs) = known_kept [] rs.items
 parts_kept (Raw-F.Dotted rs) = rs.value.1
 parts_kept _ = tt
 
@@ -116,7 +120,7 @@ every_raw =
     (λ x y is. row_kept x (subst (λ z. OfRaw z.value) is y.value.1))
     (λ x y is. rows_kept x (subst
     (λ z. keyed_within (rows_from (map key_of z.parents.items) (map lined_of z.rows.items)) ≡ true) is
-    (lines_kept (map key_of y.parents.items) y.rows.items)))
+    (known_kept (map key_of y.parents.items) y.rows.items)))
 
 pub every_row : (r : Row) → OfRow r
 every_row r = rw (lined_is r) (every_raw (out-Row r).value)
@@ -124,22 +128,13 @@ every_row r = rw (lined_is r) (every_raw (out-Row r).value)
 pub every_element : (e : Element) → OfElement e
 every_element e = rw (placed_is e) (every_raw (out-Element e).value)
 
-lines_have_keys : (parents : List Key) (rs : List Row) → keyed_within (rows_from parents (map lined_of rs)) ≡ true
-lines_have_keys parents [] = refl
-lines_have_keys parents (r ∷ rs) =
-    rw (
-      last_is_one (take (lined_of r).parents parents) (lined_of r).key,
-      every_row r,
-      lines_have_keys (drop (lined_of r).parents parents) rs,
-    )
-    refl
-
 pub one_has_keys : (ks : List Key) (r : Row)
     → keyed_within (row (ks ++ (lined_of r).key ∷ []) (lined_of r).start (lined_of r).value no_rows) ≡ true
 one_has_keys ks r = rw (last_is_one ks (lined_of r).key, every_row r) refl
 
 pub rows_have_keys : (rs : tables.Rows) → keyed_within (rows_view rs) ≡ true
-rows_have_keys rs = lines_have_keys (map key_of (tables.out-Rows rs).parents.items) (tables.out-Rows rs).rows.items
+rows_have_keys rs =
+    lines_kept lined_of every_row (map key_of (tables.out-Rows rs).parents.items) (tables.out-Rows rs).rows.items
 
 pub sections_have_keys : (ss : List code.Section) → all_keyed_within (map section_of ss) ≡ true
 sections_have_keys [] = refl
