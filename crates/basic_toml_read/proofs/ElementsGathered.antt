@@ -1,6 +1,6 @@
 -- The elements of an array, one by one.
 use Rattle.std.proofs.Common.{inr, ◌≡◌, ℕ, ◌<◌, ◌≤◌, List, [], ◌∷◌, ◌++◌, max, refl, ap, sym, ◌∙◌, arith}
-use Rattle.std.proofs.Common.{append_assoc, append-nil, Some, None, Result, Ok, Err, Vec, Global}
+use Rattle.std.proofs.Common.{append_assoc, Some, None, Result, Ok, Err, Vec, Global}
 use Rattle.std.specs.Str.{IsCharBoundary}
 use Rattle.basic_toml_value.specs.Nesting.{nesting_limit}
 use Rattle.basic_toml_tokens.specs.Text.{text_at}
@@ -20,14 +20,14 @@ use Rattle.basic_toml_read.specs.FrontOf.{value_of, elements_of}
 use Rattle.basic_toml_read.specs.AtPlace.{Leaves}
 use Rattle.basic_toml_read.specs.SectionView.{elements_view}
 use Rattle.basic_toml_read.specs.StopsAt.{Misses}
-use Rattle.basic_toml_read.specs.Gathers.{lines_of, IsValueRead, AreElementsRead, ClosesAt, ReadsElements}
+use Rattle.basic_toml_read.specs.Gathers.{lines_of, IsValueRead, ClosesAt, ReadsElements}
 use Rattle.basic_toml_read.specs.StopsReached.{LeadsTo, in_elements}
 use Rattle.basic_toml_grammar.proofs.Grammar.ReaderIsComplete.{gap}
-use Rattle.basic_toml_read.proofs.StandsIn.{Answered, SameDeep, same_deep, then_deep, stays_in, stops_on, then_in}
+use Rattle.basic_toml_read.proofs.StandsIn.{Answered, SameDeep, then_deep, stops_on, then_in}
 use Rattle.basic_toml_read.proofs.StandsIn.{without_stop}
 use Rattle.basic_toml_read.proofs.FurtherOn.{past_element, holes_past_element, last_element, unclosed_array}
 use Rattle.basic_toml_read.proofs.EnoughSteps.{after_value, elements_is}
-use Rattle.basic_toml_read.proofs.GoesOn.{after, after_from, after_none, after_one, first_of, found_from, misses_after}
+use Rattle.basic_toml_read.proofs.GoesOn.{after, after_from, after_one, first_of, found_from, misses_after}
 use Rattle.basic_toml_read.proofs.GoesOn.{then_from}
 use Rattle.basic_toml_read.proofs.LeftAfter.{sign_there, sign_missing}
 use Rattle.basic_toml_read.proofs.ViewsSeen.{element_seen}
@@ -56,41 +56,8 @@ pub record ElementsSoFar (bytes : List ℕ) (start level at : ℕ) (old new : Ga
       (DeepElements nesting_limit level (text_at bytes start))
   pub holes : LeadsTo (in_elements (text_at bytes at)) (in_elements (text_at bytes start))
 
-pub elements_start : (bytes : List ℕ) (start level : ℕ) (old : Gathered) → IsCharBoundary bytes start
-    → ElementsSoFar bytes start level start old old
-elements_start bytes start level old b = record {
-  got = [];
-  join = λ es. es;
-  seen = λ more. refl;
-  high = λ es. omega arith;
-  told = after_none (elements_of (text_at bytes start));
-  pushed = sym (append-nil old.elements.items);
-  lines = refl;
-  limit = omega arith;
-  boundary = b;
-  forward = omega arith;
-  deep = same_deep;
-  holes = stays_in;
-}
-
 module _ {bytes : List ℕ} {start level at : ℕ} {old new : Gathered} (s : ElementsSoFar bytes start level at old new)
   where
-    -- the closing bracket
-    pub elements_end : (end : ℕ) → IsPunctuationEnd 93 bytes at (Some end)
-        → AreElementsRead bytes start level old new end
-    unfolding after
-    elements_end end sign = record {
-      added = s.got;
-      is = s.told ∙ after_from _ (elements_is (text_at bytes at) ∙ found_from _ _ (sign_there sign.0))
-          ∙ ap (λ (es : Elements). Some (es, text_at bytes end))
-          (sym (s.seen []) ∙ ap elements_view (append-nil s.got));
-      pushed = s.pushed;
-      lines = s.lines;
-      limit = s.limit;
-      boundary = sign.1;
-      later = omega (arith, s.forward, sign.2);
-    }
-
     module _ (unclosed : IsPunctuationEnd 93 bytes at None) where
       by_value : elements_of (text_at bytes start)
           ≡ after s.join (and_then (value_of (text_at bytes at)) (after_value elements_of))

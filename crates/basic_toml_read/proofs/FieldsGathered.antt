@@ -9,7 +9,6 @@ use Rattle.basic_toml_grammar.specs.Entering.{and_then}
 use Rattle.basic_toml_grammar.specs.Levels.{rows_level}
 use Rattle.basic_toml_grammar.specs.Reader.{char_at}
 use Rattle.basic_toml_grammar.specs.DeepStops.{DeepFields}
-use Rattle.basic_toml_grammar.specs.Holes.{HoleInFields}
 use Rattle.basic_toml_explain.specs.declared.stop.Stop.{Stop}
 use Rattle.basic_toml_explain.specs.declared.stop.Why.{Why}
 use Rattle.basic_toml_explain.specs.declared.stop.Why.TheVariants as why
@@ -17,17 +16,16 @@ use Rattle.basic_toml_read.specs.declared.values.Gathered.{Gathered}
 use Rattle.basic_toml_read.specs.FrontOf.{fields_of, fields_on_of, row_of}
 use Rattle.basic_toml_read.specs.AtPlace.{Leaves}
 use Rattle.basic_toml_read.specs.StopsAt.{Misses}
-use Rattle.basic_toml_read.specs.Gathers.{Lines, no_lines, and_lines, lines_of, row_level, IsRowRead}
-use Rattle.basic_toml_read.specs.Gathers.{AreFieldsRead, ClosesAt, ReadsFields}
+use Rattle.basic_toml_read.specs.Gathers.{Lines, and_lines, row_level, IsRowRead}
+use Rattle.basic_toml_read.specs.Gathers.{ClosesAt, ReadsFields}
 use Rattle.basic_toml_read.specs.StopsReached.{LeadsTo, in_fields, in_fields_on}
-use Rattle.basic_toml_read.proofs.StandsIn.{Answered, without_stop, SameDeep, same_deep, then_deep, stops_on, then_in}
+use Rattle.basic_toml_read.proofs.StandsIn.{Answered, without_stop, SameDeep, then_deep, stops_on, then_in}
 use Rattle.basic_toml_read.proofs.FurtherOn.{past_field, holes_past_field, last_field, unclosed_fields}
-use Rattle.basic_toml_read.proofs.EnoughSteps.{after_field, fields_is, fields_on_is}
-use Rattle.basic_toml_read.proofs.GoesOn.{after, after_from, after_none, after_one, first_of, found_from, misses_after}
+use Rattle.basic_toml_read.proofs.EnoughSteps.{after_field, fields_on_is}
+use Rattle.basic_toml_read.proofs.GoesOn.{after, after_from, after_one, first_of, found_from, misses_after}
 use Rattle.basic_toml_read.proofs.GoesOn.{then_from}
 use Rattle.basic_toml_read.proofs.LeftAfter.{sign_there, sign_missing}
-use Rattle.basic_toml_read.proofs.LinesGathered.{LinesSoFar, row_first, lines_start, lines_more, view_more}
-use Rattle.basic_toml_read.proofs.ViewsSeen.{lines_none}
+use Rattle.basic_toml_read.proofs.LinesGathered.{LinesSoFar, row_first, lines_more, view_more}
 
 -- the rows of an inline table up to an offset
 pub record FieldsSoFar (bytes : List ℕ) (start level at : ℕ) (old new : Gathered) : Type 0 where
@@ -39,33 +37,6 @@ pub record FieldsSoFar (bytes : List ℕ) (start level at : ℕ) (old new : Gath
   pub deep : SameDeep (DeepFields nesting_limit level (text_at bytes at))
       (DeepFields nesting_limit level (text_at bytes start))
   pub holes : LeadsTo (in_fields_on (text_at bytes at)) (in_fields (text_at bytes start))
-
-pub fields_start : (bytes : List ℕ) (start level : ℕ) (old : Gathered) → IsCharBoundary bytes start
-    → IsPunctuationEnd 125 bytes start None → FieldsSoFar bytes start level start old old
-unfolding lines_start
-fields_start bytes start level old b sign =
-    let none = sign_missing 125 (text_at bytes start) sign in
-    record {
-      got = no_lines;
-      lines = lines_start level old;
-      told = fields_is (text_at bytes start) ∙ found_from _ _ none ∙ after_none (fields_on_of (text_at bytes start));
-      boundary = b;
-      forward = omega arith;
-      deep = same_deep;
-      holes = record { on = λ h at d. HoleInFields.fields none d; same = λ at d. refl };
-    }
-
-pub fields_none : (bytes : List ℕ) (start level end : ℕ) (old : Gathered) → IsPunctuationEnd 125 bytes start (Some end)
-    → AreFieldsRead bytes start level old old end
-fields_none bytes start level end old sign = record {
-  added = no_lines;
-  is = fields_is (text_at bytes start) ∙ found_from _ _ (sign_there sign.0);
-  pushed = sym (lines_none (lines_of old));
-  elements = refl;
-  limit = omega arith;
-  boundary = sign.1;
-  later = omega (arith, sign.2);
-}
 
 module _ {bytes : List ℕ} {start level at : ℕ} {old new : Gathered} (s : FieldsSoFar bytes start level at old new) where
   -- no row

@@ -6,10 +6,10 @@ use Rattle.basic_toml_grammar.specs.Sections.{Key, Rows, no_rows, row}
 use Rattle.basic_toml_grammar.specs.Entering.{has_key, rows_keyed, keyed_within, value_keyed, elements_keyed}
 use Rattle.basic_toml_grammar.specs.Entering.{all_keyed_within}
 use Rattle.basic_toml_read.specs.declared.section.Raw.{Raw, map-Raw, roll-Raw, ind-Raw, the_lemmas}
-use Rattle.basic_toml_read.specs.declared.section.Raw.TheOpen.{Raw-F, Element-F, Row-F, Rows-F}
-use Rattle.basic_toml_read.specs.declared.section.Element.{Element, out-Element, roll-Element}
+use Rattle.basic_toml_read.specs.declared.section.Raw.TheOpen.{Raw-F, Rows-F}
+use Rattle.basic_toml_read.specs.declared.section.Element.{Element, out-Element}
 use Rattle.basic_toml_read.specs.declared.section.Key as keys
-use Rattle.basic_toml_read.specs.declared.section.Row.{Row, out-Row, roll-Row}
+use Rattle.basic_toml_read.specs.declared.section.Row.{Row, out-Row}
 use Rattle.basic_toml_read.specs.declared.section.Rows as tables
 use Rattle.basic_toml_read.specs.declared.section.Rows.{roll-Rows}
 use Rattle.basic_toml_read.specs.declared.section.Section as code
@@ -84,12 +84,6 @@ raw_kept : (x : Raw-F Raw Element Row tables.Rows) → Parts x → OfRaw (roll-R
 raw_kept (Raw-F.Array es) parts = search (rules, the_lemmas)
 raw_kept _ parts = search (rules, the_lemmas)
 
-element_kept : (x : Element-F Raw Element Row tables.Rows) → OfRaw x.value → OfElement (roll-Element x)
-element_kept x parts = search (rules, the_lemmas)
-
-row_kept : (x : Row-F Raw Element Row tables.Rows) → OfRaw x.value → OfRow (roll-Row x)
-row_kept x parts = search (rules, the_lemmas)
-
 rows_kept : (x : Rows-F Raw Element Row tables.Rows)
     → keyed_within (rows_from (map key_of x.parents.items) (map lined_of x.rows.items)) ≡ true → OfRows (roll-Rows x)
 rows_kept x parts = search (rules, the_lemmas)
@@ -116,8 +110,8 @@ parts_kept _ = tt
 every_raw : (v : Raw) → OfRaw v
 every_raw =
     ind-Raw OfRaw OfElement OfRow OfRows (λ x y is. raw_kept x (subst Parts is (parts_kept y)))
-    (λ x y is. element_kept x (subst (λ z. OfRaw z.value) is y.value.1))
-    (λ x y is. row_kept x (subst (λ z. OfRaw z.value) is y.value.1))
+    (λ x y is. let kept = subst (λ z. OfRaw z.value) is y.value.1 in search (rules, the_lemmas))
+    (λ x y is. let kept = subst (λ z. OfRaw z.value) is y.value.1 in search (rules, the_lemmas))
     (λ x y is. rows_kept x (subst
     (λ z. keyed_within (rows_from (map key_of z.parents.items) (map lined_of z.rows.items)) ≡ true) is
     (known_kept (map key_of y.parents.items) y.rows.items)))

@@ -20,7 +20,7 @@ use Rattle.basic_toml_explain.specs.Stop.{StopsInside}
 use Rattle.basic_toml_read.specs.declared.values.Gathered.{Gathered}
 use Rattle.basic_toml_read.specs.FrontOf.{rows_of, row_of}
 use Rattle.basic_toml_read.specs.AtPlace.{EndsAt, Leaves}
-use Rattle.basic_toml_read.specs.Gathers.{row_level, Lines, no_lines, and_lines, lines_of, IsRowRead}
+use Rattle.basic_toml_read.specs.Gathers.{row_level, Lines, and_lines, lines_of, IsRowRead}
 use Rattle.basic_toml_read.specs.Lists.{AreRowsRead, EndsLineAt, EndsOrStops, IsGap, PassesGaps, ReadsRows}
 use Rattle.basic_toml_read.specs.StopsReached.{IfDeep, InHole, LeadsTo, in_row, in_rows}
 use Rattle.basic_toml_grammar.proofs.Grammar.StringsAreRead.{then_some}
@@ -30,12 +30,12 @@ use Rattle.basic_toml_read.proofs.NothingTooDeep.{line_row}
 use Rattle.basic_toml_read.proofs.EnoughSteps.{after_row, keys_is, row_is, rows_is, rows_is_none}
 use Rattle.basic_toml_read.proofs.LeftAfter.{sign_there, sign_missing, gap_past_line, gap_over, gap_ends_line}
 use Rattle.basic_toml_read.proofs.LeftAfter.{gap_has_no_bracket, line_of}
-use Rattle.basic_toml_read.proofs.GoesOn.{after, after_from, after_none, after_one, found_from, misses_after}
+use Rattle.basic_toml_read.proofs.GoesOn.{after, after_from, after_one, found_from, misses_after}
 use Rattle.basic_toml_read.proofs.GoesOn.{misses_none, then_from}
-use Rattle.basic_toml_read.proofs.StandsIn.{SameDeep, at_deep, same_deep, then_deep, stays_in, then_in}
+use Rattle.basic_toml_read.proofs.StandsIn.{SameDeep, at_deep, then_deep, then_in}
 use Rattle.basic_toml_read.proofs.StandsIn.{StopIn, newline_stop, stops_on}
 use Rattle.basic_toml_read.proofs.FurtherOn.{row_stands}
-use Rattle.basic_toml_read.proofs.LinesGathered.{LinesSoFar, row_first, lines_alone, lines_start, lines_more}
+use Rattle.basic_toml_read.proofs.LinesGathered.{LinesSoFar, row_first, lines_alone, lines_more}
 
 pub record RowsSoFar (bytes : List ℕ) (start level at : ℕ) (old new : Gathered) : Type 0 where
   pub got : Lines
@@ -47,20 +47,6 @@ pub record RowsSoFar (bytes : List ℕ) (start level at : ℕ) (old new : Gather
   pub deep : SameDeep (DeepRows nesting_limit level (text_at bytes at))
       (DeepRows nesting_limit level (text_at bytes start))
   pub holes : LeadsTo (in_rows (text_at bytes at)) (in_rows (text_at bytes start))
-
-pub rows_start : (bytes : List ℕ) (start level : ℕ) (old : Gathered) → IsCharBoundary bytes start
-    → RowsSoFar bytes start level start old old
-unfolding lines_start
-rows_start bytes start level old b = record {
-  got = no_lines;
-  lines = lines_start level old;
-  told = after_none (rows_of (text_at bytes start));
-  boundary = b;
-  forward = omega arith;
-  gaps = λ g. (g, refl);
-  deep = same_deep;
-  holes = stays_in;
-}
 
 -- the end of a line
 pub line_told : (bytes : List ℕ) (at end : ℕ) → Leaves bytes at end (line_of (text_at bytes at))

@@ -1,31 +1,47 @@
-use Rattle.std.proofs.Common.{◌≡◌, length, sym, ap, inl, Err, refl, arith, rules, ◌∙◌}
+use Rattle.std.proofs.Common.{[], append-nil, Some, ◌≡◌, length, sym, ap, inl, Err, refl, arith, rules, ◌∙◌}
 use Rattle.basic_toml_tokens.specs.Text.{text_at}
 use Rattle.basic_toml_grammar.specs.DeepStops.{keys, this_brace, this_bracket, this_element, this_field, elements}
 use Rattle.basic_toml_grammar.specs.DeepStops.{fields}
-use Rattle.basic_toml_grammar.specs.Holes.{HoleInElements, HoleInFieldsOn, HoleInRow}
+use Rattle.basic_toml_grammar.specs.Holes.{HoleInElements, HoleInFields, HoleInFieldsOn, HoleInRow}
 use Rattle.basic_toml_explain.specs.StopHoles.{hole_behind}
-use Rattle.basic_toml_read.specs.FrontOf.{elements_of, fields_of}
-use Rattle.basic_toml_read.specs.Gathers.{Lines, lines_view}
+use Rattle.basic_toml_read.specs.FrontOf.{elements_of, fields_of, fields_on_of}
+use Rattle.basic_toml_read.specs.Gathers.{Lines, no_lines, lines_of, lines_view}
 use Rattle.basic_toml_read.specs.SectionView.{elements_view}
-use Rattle.basic_toml_grammar.specs.Sections.{Raw}
+use Rattle.basic_toml_grammar.specs.Sections.{Elements, Raw}
 use Rattle.basic_toml_read.specs.StopsReached.{in_elements, in_fields, in_row}
 use Rattle.basic_toml_grammar.proofs.Nesting.WithinTheLimit as within
+use Rattle.basic_toml_read.proofs.StandsIn.{same_deep, stays_in}
 use Rattle.basic_toml_read.proofs.StandsIn.{is_err, at_deep, key_stops_on, moved_in, stop_in_whole, then_in}
-use Rattle.basic_toml_read.proofs.LeftAfter.{sign_missing}
-use Rattle.basic_toml_read.proofs.ElementsGathered.{elements_start, elements_end, elements_missing, elements_more}
-use Rattle.basic_toml_read.proofs.ElementsGathered.{elements_close}
-use Rattle.basic_toml_read.proofs.FieldsGathered.{fields_start, fields_none, fields_missing, fields_more, fields_close}
+use Rattle.basic_toml_read.proofs.LeftAfter.{sign_missing, sign_there}
+use Rattle.basic_toml_read.proofs.GoesOn.{after, after_from, after_none, found_from}
+use Rattle.basic_toml_read.proofs.EnoughSteps.{elements_is, fields_is}
+use Rattle.basic_toml_read.proofs.LinesGathered.{lines_start}
+use Rattle.basic_toml_read.proofs.ElementsGathered.{elements_missing, elements_more, elements_close}
+use Rattle.basic_toml_read.proofs.FieldsGathered.{fields_missing, fields_more, fields_close}
 use Rattle.basic_toml_read.proofs.NothingTooDeep.{its_row, its_value, row_keys}
 use Rattle.basic_toml_read.proofs.AfterKeys.{keys_missed, no_equals, row_there}
 use Rattle.basic_toml_read.proofs.AfterKeys.{to_its_value, value_deep, value_missing}
 use Rattle.basic_toml_read.proofs.InBrackets.{added_to, array_answered, inline_answered}
-use Rattle.basic_toml_read.proofs.ViewsSeen.{array_of}
+use Rattle.basic_toml_read.proofs.ViewsSeen.{array_of, lines_none}
 use Rattle.basic_toml_read.proofs.ScalarValues.{string_answered, word_answered}
 use Rattle.basic_toml_read.proofs.values.Gathered.+values.Goals as goal
 
 -- elements
 pub elements-loop-end-init : goal.elements-loop-end-init
-elements-loop-end-init t c = elements_start c.args.text.now c.args.start c.args.level c.args.self.now c.requires.1.1.0
+elements-loop-end-init t c = record {
+  got = [];
+  join = λ es. es;
+  seen = λ more. refl;
+  high = λ es. omega arith;
+  told = after_none (elements_of (text_at c.args.text.now c.args.start));
+  pushed = sym (append-nil c.args.self.now.elements.items);
+  lines = refl;
+  limit = omega arith;
+  boundary = c.requires.1.1.0;
+  forward = omega arith;
+  deep = same_deep;
+  holes = stays_in;
+}
 
 pub elements-loop-end-preserved : goal.elements-loop-end-preserved
 elements-loop-end-preserved t c =
@@ -33,7 +49,22 @@ elements-loop-end-preserved t c =
     c.push.new.self c.in_ok-push.ensures.items c.after_gap-at.ensures c.in-Some-after_punctuation.ensures
 
 pub elements-returns-in-Some-clause-read : goal.elements-returns-in-Some-clause-read
-elements-returns-in-Some-clause-read t c = elements_end c.loop-end.invariant c.in-Some.end c.in-Some.ensures
+unfolding after
+elements-returns-in-Some-clause-read t c =
+    let s = c.loop-end.invariant in
+    let bytes = c.args.text.now in
+    record {
+      added = s.got;
+      is = s.told
+          ∙ after_from _ (elements_is (text_at bytes c.loop-end.at) ∙ found_from _ _ (sign_there c.in-Some.ensures.0))
+          ∙ ap (λ (es : Elements). Some (es, text_at bytes c.in-Some.end))
+          (sym (s.seen []) ∙ ap elements_view (append-nil s.got));
+      pushed = s.pushed;
+      lines = s.lines;
+      limit = s.limit;
+      boundary = c.in-Some.ensures.1;
+      later = omega (arith, s.forward, c.in-Some.ensures.2);
+    }
 
 pub elements-returns-in_err-valued : goal.elements-returns-in_err-valued
 elements-returns-in_err-valued t c =
@@ -60,8 +91,19 @@ elements-returns-in_default-after_punctuation t c =
 
 -- the rows of an inline table
 pub fields-loop-after-init : goal.fields-loop-after-init
+unfolding lines_start
 fields-loop-after-init t c =
-    fields_start c.args.text.now c.args.start c.args.level c.args.self.now c.requires.1.1.0 c.in_default.ensures
+    let here = text_at c.args.text.now c.args.start in
+    let none = sign_missing 125 here c.in_default.ensures in
+    record {
+      got = no_lines;
+      lines = lines_start c.args.level c.args.self.now;
+      told = fields_is here ∙ found_from _ _ none ∙ after_none (fields_on_of here);
+      boundary = c.requires.1.1.0;
+      forward = omega arith;
+      deep = same_deep;
+      holes = record { on = λ h at d. HoleInFields.fields none d; same = λ at d. refl };
+    }
 
 pub fields-loop-after-preserved : goal.fields-loop-after-preserved
 fields-loop-after-preserved t c =
@@ -69,8 +111,15 @@ fields-loop-after-preserved t c =
     c.in-Some-after_punctuation.ensures
 
 pub fields-returns-in-Some-clause-read : goal.fields-returns-in-Some-clause-read
-fields-returns-in-Some-clause-read t c =
-    fields_none c.args.text.now c.args.start c.args.level c.in-Some.end c.args.self.now c.in-Some.ensures
+fields-returns-in-Some-clause-read t c = record {
+  added = no_lines;
+  is = fields_is (text_at c.args.text.now c.args.start) ∙ found_from _ _ (sign_there c.in-Some.ensures.0);
+  pushed = sym (lines_none (lines_of c.args.self.now));
+  elements = refl;
+  limit = omega arith;
+  boundary = c.in-Some.ensures.1;
+  later = omega (arith, c.in-Some.ensures.2);
+}
 
 pub fields-returns-in_err-row : goal.fields-returns-in_err-row
 fields-returns-in_err-row t c =

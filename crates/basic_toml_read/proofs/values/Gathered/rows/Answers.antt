@@ -1,13 +1,17 @@
-use Rattle.std.proofs.Common.{◌≡◌, sym, ◌∙◌, ap, arith, None, Err}
+use Rattle.std.proofs.Common.{◌≡◌, refl, sym, ◌∙◌, ap, arith, None, Err}
 use Rattle.basic_toml_tokens.specs.Punctuation.{IsPunctuationEnd}
 use Rattle.basic_toml_tokens.specs.Text.{text_at, is_comment}
 use Rattle.basic_toml_grammar.specs.Grammar.{after_comment_by}
 use Rattle.basic_toml_grammar.specs.Reader.{end_of, line_end_at}
-use Rattle.basic_toml_read.proofs.StandsIn.{is_err}
+use Rattle.basic_toml_read.proofs.StandsIn.{is_err, same_deep, stays_in}
+use Rattle.basic_toml_read.proofs.GoesOn.{after_none}
+use Rattle.basic_toml_read.proofs.LinesGathered.{lines_start}
+use Rattle.basic_toml_read.specs.FrontOf.{rows_of}
+use Rattle.basic_toml_read.specs.Gathers.{no_lines}
 use Rattle.basic_toml_read.proofs.LeftAfter.{line_of, no_comment}
 use Rattle.basic_toml_read.proofs.RowsRead.{NoHeader, bracket_no_gap, comment_stops, line_here}
 use Rattle.basic_toml_read.proofs.RowsRead.{row_stops, rows_bracket, rows_empty, rows_more, rows_over}
-use Rattle.basic_toml_read.proofs.RowsRead.{rows_start, sign_lacks, sign_stands, unended_stops}
+use Rattle.basic_toml_read.proofs.RowsRead.{sign_lacks, sign_stands, unended_stops}
 use Rattle.basic_toml_read.proofs.values.Gathered.rows.Goals.{After-after_comment, Else-is_some, Else-is_some-2}
 use Rattle.basic_toml_read.proofs.values.Gathered.rows.Goals as goal
 
@@ -39,7 +43,17 @@ same_end c =
     ∙ no_comment (text_at c.args.text.now c.after_blanks-front.result) (no_hash c))
 
 pub loop-at-init : goal.loop-at-init
-loop-at-init c = rows_start c.args.text.now c.args.start c.args.level c.args.self.now c.requires.boundary
+unfolding lines_start
+loop-at-init c = record {
+  got = no_lines;
+  lines = lines_start c.args.level c.args.self.now;
+  told = after_none (rows_of (text_at c.args.text.now c.args.start));
+  boundary = c.requires.boundary;
+  forward = omega arith;
+  gaps = λ g. (g, refl);
+  deep = same_deep;
+  holes = stays_in;
+}
 
 pub loop-at-preserved-in-Some : goal.loop-at-preserved-in-Some
 loop-at-preserved-in-Some c =
