@@ -14,6 +14,7 @@ use Rattle.basic_toml_grammar.specs.Entering.{and_then}
 use Rattle.basic_toml_grammar.specs.Levels.{value_level}
 use Rattle.basic_toml_grammar.specs.Reader as reader
 use Rattle.basic_toml_explain.specs.declared.stop.Why.TheVariants.{Equals}
+use Rattle.basic_toml_explain.specs.declared.stop.Stop.{Stop}
 use Rattle.basic_toml_explain.specs.declared.stop.Why.{Why}
 use Rattle.basic_toml_read.specs.declared.values.Gathered.{Gathered}
 use Rattle.basic_toml_read.specs.declared.values.LastKey.{LastKey}
@@ -29,8 +30,8 @@ use Rattle.basic_toml_read.specs.StopsAt.{Misses}
 use Rattle.basic_toml_grammar.proofs.Grammar.ReaderIsSound.{keys_read}
 use Rattle.basic_toml_grammar.proofs.Nesting.WithinTheLimit as within
 use Rattle.basic_toml_grammar.proofs.Grammar.StringsAreRead.{then_some}
-use Rattle.basic_toml_read.proofs.StandsIn.{SameDeep, StopIn, nothing_fits}
-use Rattle.basic_toml_read.proofs.LeftAfter.{sign_after, sign_missing, sign_there}
+use Rattle.basic_toml_read.proofs.StandsIn.{StopIn, nothing_fits, stop_in_whole}
+use Rattle.basic_toml_read.proofs.LeftAfter.{sign_missing, sign_there}
 use Rattle.basic_toml_read.proofs.EnoughSteps.{row_is}
 use Rattle.basic_toml_read.proofs.ViewsSeen.{row_before}
 use Rattle.basic_toml_read.proofs.GoesOn.{misses_on, then_from}
@@ -115,33 +116,27 @@ module _ {bytes : List ℕ} {at level : ℕ} {old new : Gathered} {last : LastKe
   -- the value
   module _ {next start : ℕ} (left : Leaves bytes next start (after_blanks (text_at bytes next)))
       (sign : IsPunctuationEnd 61 bytes last.end (Some next)) where
-    pub value_deep : SameDeep (DeepValue nesting_limit last.level (text_at bytes start))
-        (DeepRow nesting_limit level (text_at bytes at))
-    value_deep =
-        let equals = sign_after bytes last.end next 61 k.after sign in
-        rw (left.left, ← level_of_last) (record {
-          leads = λ p d. value keys_stand keys_within equals d;
-          backs = λ p d. within.past_equals keys_stand keys_within equals d;
-        })
-
-    pub to_its_value : (end : Hole) → LeadsTo (in_value (text_at bytes start) end) (in_row (text_at bytes at) end)
-    to_its_value end =
-        let equals = sign_after bytes last.end next 61 k.after sign in
-        rw left.left (record { on = λ h at d. HoleInRow.in_value keys_stand equals d; same = λ at d. refl })
-
     row_by_value : row_of (text_at bytes at)
         ≡ and_then (value_of (text_at bytes start)) (λ v. Some (assigned all_keys v))
     row_by_value = rw left.left (row_by (Some (last.end, text_at bytes next)) (sign_there sign.0))
 
-    pub value_missing : (w : Why)
-        → Misses w (value_of (text_at bytes start)) (λ v. nesting_limit < value_level last.level v.value)
-        → Misses w (row_of (text_at bytes at)) (λ r. nesting_limit < row_level level r)
+    pub value_stop : (stop : Stop) (end : Hole)
+        → StopIn bytes (value_of (text_at bytes start)) (λ v. nesting_limit < value_level last.level v.value)
+        (DeepValue nesting_limit last.level (text_at bytes start)) (in_value (text_at bytes start) end) stop
+        → StopIn bytes (row_of (text_at bytes at)) (λ r. nesting_limit < row_level level r)
+        (DeepRow nesting_limit level (text_at bytes at)) (in_row (text_at bytes at) end) stop
     unfolding assigned
-    value_missing w m =
-        misses_on w (value_of (text_at bytes start)) _ _ _ row_by_value
+    value_stop stop end e =
+        let equals = sym k.after ∙ sign.0 in
+        let on : LeadsTo (in_value (text_at bytes start) end) (in_row (text_at bytes at) end) =
+        rw left.left (record { on = λ h at d. HoleInRow.in_value keys_stand equals d; same = λ at d. refl }) in
+        stop_in_whole _ _ _ _ stop e
+        (misses_on stop.why (value_of (text_at bytes start)) _ _ _ row_by_value
         (λ v y f h. let same : assigned all_keys v ≡ y = cc in
         rw (← same) (omega (arith, h, ap (λ n. value_level n v.value) level_of_last)))
-        m
+        e.read)
+        (λ p d. value keys_stand keys_within equals (rw (left.left, ← level_of_last) at d))
+        (λ none p d. rw (left.left, ← level_of_last) (within.past_equals keys_stand keys_within equals d)) on
 
     pub row_there : {new' : Gathered} {v : Valued} → IsValueRead bytes start last.level new new' v
         → (rows : Vec Row Global) → rows.items ≡ new'.rows.items ++ row_of_value last (last.level - level) v ∷ []

@@ -1,7 +1,7 @@
 -- What stands at the front of a text does not depend on the bound on the steps, where it is large enough. So it is told
 -- by what stands at the front of shorter texts.
-use Rattle.std.proofs.Common.{◌≡◌, ℕ, suc, ◌+◌, ◌*◌, ◌<◌, ◌≤◌, true, false, [], ◌∷◌, length, refl, ap, sym}
-use Rattle.std.proofs.Common.{◌∙◌, arith, List, Option, Some, None}
+use Rattle.std.proofs.Common.{◌≡◌, ℕ, suc, ◌+◌, ◌*◌, ◌<◌, ◌≤◌, true, false, [], ◌∷◌, length, refl, ap}
+use Rattle.std.proofs.Common.{◌∙◌, arith, List, Option, Some}
 use Rattle.std.specs.Option.{option_or}
 use Rattle.basic_toml_tokens.specs.Text.{Text, after_blanks}
 use Rattle.basic_toml_grammar.specs.Sections.{Key, Raw, Elements, Rows, Section, no_elements, element, no_rows, row}
@@ -20,7 +20,7 @@ use Rattle.basic_toml_grammar.proofs.Grammar.ReaderIsComplete.{shorter_after_bla
 use Rattle.basic_toml_grammar.proofs.Grammar.ReaderIsComplete.{value_shorter, row_shorter, ends_shorter, line_shorter}
 use Rattle.basic_toml_grammar.proofs.Grammar.ReaderIsComplete.{value_found, row_found, rows_found, header_found}
 use Rattle.basic_toml_grammar.proofs.Grammar.ReaderIsComplete.{header_shorter, rows_shorter}
-use Rattle.basic_toml_read.proofs.GoesOn.{then_alike, found_alike, then_from}
+use Rattle.basic_toml_read.proofs.GoesOn.{then_alike, found_alike, same_found, then_from}
 
 sign_shorter : (c : ℕ) (text : Text) (s : ℕ × Text) → char_at c text ≡ Some s → length text ≡ suc (length s.1)
 sign_shorter c text s e = sign_length (sign_read c text s e)
@@ -125,12 +125,6 @@ sections_step n header rows more x text same h k =
     ∙ then_from _ same
 
 -- so two bounds that are large enough find the same
-same_found : {A : Type 0} (o o' : Option A) → ((x : A) → o ≡ Some x → o' ≡ Some x)
-    → ((x : A) → o' ≡ Some x → o ≡ Some x) → o ≡ o'
-same_found (Some x) o' f g = sym (f x refl)
-same_found None (Some x) f g = g x refl
-same_found None None f g = refl
-
 keys_enough : (n m : ℕ) (text : Text) → length text < n → length text < m → keys_at n text ≡ keys_at m text
 keys_enough (suc n) (suc m) text h k =
     keys_step n (keys_at m) text (λ t l. keys_enough n m t (omega arith) (omega arith))

@@ -21,7 +21,7 @@ use Rattle.basic_toml_read.specs.StopsReached.{LeadsTo, in_elements, in_fields_o
 use Rattle.basic_toml_grammar.proofs.Grammar.ReaderIsSound.{key_read, value_read, row_read}
 use Rattle.basic_toml_grammar.proofs.Nesting.WithinTheLimit as within
 use Rattle.basic_toml_read.proofs.StandsIn.{SameDeep, nothing_fits}
-use Rattle.basic_toml_read.proofs.LeftAfter.{sign_after, sign_missing}
+use Rattle.basic_toml_read.proofs.LeftAfter.{sign_missing}
 
 -- past a key and a period
 module _ {bytes : List ℕ} {k : Key} {end after next at' : ℕ} (at : ℕ)
@@ -33,7 +33,7 @@ module _ {bytes : List ℕ} {k : Key} {end after next at' : ℕ} (at : ℕ)
       → SameDeep (DeepKeys nesting_limit (level + 1) (text_at bytes at'))
       (DeepKeys nesting_limit level (text_at bytes at))
   past_key h =
-      let period = sign_after bytes after next 46 blanks.left sign in
+      let period = sym blanks.left ∙ sign.0 in
       let here = key_read (text_at bytes at) (k, text_at bytes end) key in
       rw later.left (record {
         leads = λ p d. later_key h here period d;
@@ -44,7 +44,7 @@ module _ {bytes : List ℕ} {k : Key} {end after next at' : ℕ} (at : ℕ)
       → HoleInKeys (text_at bytes at) Hole.key there
   hole_past_key there d =
       HoleInKeys.later_key (key_read (text_at bytes at) (k, text_at bytes end) key)
-      (sign_after bytes after next 46 blanks.left sign) (rw later.left at d)
+      (sym blanks.left ∙ sign.0) (rw later.left at d)
 
 -- an element
 module _ {bytes : List ℕ} {at level after : ℕ} {old new : Gathered} {v : Valued}
@@ -60,7 +60,7 @@ module _ {bytes : List ℕ} {at level after : ℕ} {old new : Gathered} {v : Val
     pub past_element : SameDeep (DeepElements nesting_limit level (text_at bytes at'))
         (DeepElements nesting_limit level (text_at bytes at))
     past_element =
-        let comma = sign_after bytes after next 44 left.left sign in
+        let comma = sym left.left ∙ sign.0 in
         rw later.left (record {
           leads = λ p d. later_element value_stands r.limit comma d;
           backs = λ p d. within.past_element value_stands r.limit comma d;
@@ -68,7 +68,7 @@ module _ {bytes : List ℕ} {at level after : ℕ} {old new : Gathered} {v : Val
 
     pub holes_past_element : LeadsTo (in_elements (text_at bytes at')) (in_elements (text_at bytes at))
     holes_past_element =
-        let comma = sign_after bytes after next 44 left.left sign in
+        let comma = sym left.left ∙ sign.0 in
         rw later.left (record { on = λ h at d. HoleInElements.later_element value_stands comma d; same = λ at d. refl })
 
   -- without one
@@ -105,7 +105,7 @@ module _ {bytes : List ℕ} {at level end after : ℕ} {old new : Gathered} (r :
     pub past_field : SameDeep (DeepFields nesting_limit level (text_at bytes at'))
         (DeepFields nesting_limit level (text_at bytes at))
     past_field =
-        let comma = sign_after bytes after next 44 left.left sign in
+        let comma = sym left.left ∙ sign.0 in
         rw later.left (record {
           leads = λ p d. later_field (row_stands r) r.limit comma d;
           backs = λ p d. within.past_field (row_stands r) r.limit comma d;
@@ -113,7 +113,7 @@ module _ {bytes : List ℕ} {at level end after : ℕ} {old new : Gathered} (r :
 
     pub holes_past_field : LeadsTo (in_fields_on (text_at bytes at')) (in_fields_on (text_at bytes at))
     holes_past_field =
-        let comma = sign_after bytes after next 44 left.left sign in
+        let comma = sym left.left ∙ sign.0 in
         rw later.left (record { on = λ h at d. HoleInFieldsOn.later_row (row_stands r) comma d; same = λ at d. refl })
 
   -- without one

@@ -27,6 +27,13 @@ pub found_alike : {A B : Type 0} (o : Option A) (f g : A → Option B) (p q : Op
 found_alike None f g p q h k = k refl
 found_alike (Some x) f g p q h k = h x refl
 
+-- what finds the same
+pub same_found : {A : Type 0} (o o' : Option A) → ((x : A) → o ≡ Some x → o' ≡ Some x)
+    → ((x : A) → o' ≡ Some x → o ≡ Some x) → o ≡ o'
+same_found (Some x) o' f g = sym (f x refl)
+same_found None (Some x) f g = g x refl
+same_found None None f g = refl
+
 -- a stop of one thing is one of what begins with it
 pub misses_then : {A B : Type 0} (w : Why) (o : Option A) (o' : Option B) (P : A → Type 0) (Q : B → Type 0)
     → (o ≡ None → o' ≡ None) → ((y : B) → o' ≡ Some y → (x : A) × (o ≡ Some x) × (P x → Q y)) → Misses w o P

@@ -31,7 +31,7 @@ use Rattle.basic_toml_grammar.proofs.Nesting.WithinTheLimit.{keys_within}
 use Rattle.basic_toml_read.proofs.StandsIn.{at_deep, key_stops_on, SameDeep, nothing_fits}
 use Rattle.basic_toml_read.proofs.EnoughSteps.{header_is}
 use Rattle.basic_toml_read.proofs.GoesOn.{found_from, then_from, misses_on, misses_then}
-use Rattle.basic_toml_read.proofs.LeftAfter.{sign_after, sign_missing, sign_there}
+use Rattle.basic_toml_read.proofs.LeftAfter.{sign_missing, sign_there}
 use Rattle.basic_toml_read.proofs.AfterKeys.{keys_there}
 use Rattle.basic_toml_read.proofs.KeysTold.{KeysStop}
 
@@ -100,7 +100,7 @@ pub two_brackets : {bytes : List ℕ} {at inner first start : ℕ}
     → IsPunctuationEnd 91 bytes inner (Some first) → Opened bytes at start true
 two_brackets {bytes = bytes} {at = at} {inner = inner} {first = first} left opens two =
     let bracket = sign_read 91 (text_at bytes at) (at, text_at bytes inner) opens.0 in
-    let second = sign_after bytes inner first 91 refl two in
+    let second = two.0 in
     record {
       is = rw left.left (header_is (text_at bytes at) ∙ then_from _ opens.0 ∙ found_from _ _ (sign_there two.0));
       later = omega (arith, opens.2, two.2, left.forward);

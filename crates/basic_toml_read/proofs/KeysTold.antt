@@ -1,8 +1,7 @@
 -- Keys one after another, up to an offset; and those of a row, as they are gathered.
 use Rattle.std.proofs.Common.{refl, inr, ◌≡◌, ℕ, ◌+◌, ◌-◌, ◌<◌, ◌≤◌, List, [], ◌∷◌, ◌++◌, length, ap, sym, ◌∙◌}
-use Rattle.std.proofs.Common.{subst, arith, append_assoc, length-append, Option, Some, None, Result, Ok, Err}
+use Rattle.std.proofs.Common.{arith, append_assoc, length-append, Option, Some, None, Ok, Err}
 use Rattle.std.proofs.Common.{map}
-use Rattle.std.specs.Result.{IsErrAnd}
 use Rattle.std.specs.Str.{IsCharBoundary}
 use Rattle.std.proofs.lemmas.List.{length-map, map-append}
 use Rattle.basic_toml_value.specs.Nesting.{nesting_limit}
@@ -34,12 +33,6 @@ use Rattle.basic_toml_read.proofs.FurtherOn.{past_key, hole_past_key}
 use Rattle.basic_toml_read.proofs.EnoughSteps.{keys_is}
 use Rattle.basic_toml_read.proofs.GoesOn.{after, after_from, after_none, after_one, first_of, found_from, then_from}
 use Rattle.basic_toml_read.proofs.LeftAfter.{sign_there, sign_missing}
-
--- what `?` answers at a stop
-pub stopped : {A : Type 0} (P : Result A Stop → Type 0) (result : Result A Stop) (stop : Stop)
-    → IsErrAnd result (λ s. s ≡ stop) → P (Err stop) → P result
-stopped P (Ok x) stop e p = absurd e
-stopped P (Err s) stop e p = subst (λ s. P (Err s)) (sym e) p
 
 -- what the keys are where the first of them is read
 keys_by_key : (text : Text) (k : Key) (mid : Text) (o : Option (ℕ × Text)) → key_at text ≡ Some (k, mid)

@@ -21,10 +21,6 @@ pub sign_missing : (c : ℕ) (text : Text) → after_run (λ x. x == c) text ≡
 sign_missing c [] e = refl
 sign_missing c (x ∷ text) e = ap (λ b. cond b (Some (x.0, text)) None) (fails_first (λ x. x == c) x text e)
 
-pub sign_after : {rest : Text} (bytes : List ℕ) (after next c : ℕ) → text_at bytes after ≡ rest
-    → IsPunctuationEnd c bytes after (Some next) → StartsWith c rest after (text_at bytes next)
-sign_after bytes after next c left sign = sym left ∙ sign.0
-
 pub no_comment : (text : Text) → after_run (λ x. x == 35) text ≡ text → after_comment_by is_comment text ≡ text
 no_comment [] e = refl
 no_comment (x ∷ text) e = ap (λ b. cond b (after_run is_comment text) (x ∷ text)) (fails_first (λ x. x == 35) x text e)

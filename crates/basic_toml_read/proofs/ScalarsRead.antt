@@ -19,23 +19,22 @@ use Rattle.basic_toml_tokens.proofs.StepIsTheFold.{offset_is}
 use Rattle.basic_toml_tokens.proofs.TokenIsUnique.{no_break}
 use Rattle.basic_toml_grammar.specs.Sections as sections
 use Rattle.basic_toml_grammar.specs.Entering.{and_then}
-use Rattle.basic_toml_grammar.specs.Grammar.{is_wordlike, word_value}
+use Rattle.basic_toml_grammar.specs.Grammar.{is_wordlike}
 use Rattle.basic_toml_grammar.specs.Reader as reader
 use Rattle.basic_toml_grammar.specs.Reader.{string_at, bare_key_at, quoted_key, key_at, string_value_at, word_at}
 use Rattle.basic_toml_explain.specs.declared.stop.Stop.{Stop}
 use Rattle.basic_toml_explain.specs.declared.stop.Why.{Why}
-use Rattle.basic_toml_explain.specs.declared.stop.Why.TheVariants.{Memory, Key, Value}
+use Rattle.basic_toml_explain.specs.declared.stop.Why.TheVariants.{Memory}
 use Rattle.basic_toml_read.specs.declared.scalar.Keyed.{Keyed}
 use Rattle.basic_toml_read.specs.declared.key_text.KeyText.{KeyText}
 use Rattle.basic_toml_read.specs.KeyText.{key_text_bytes}
-use Rattle.basic_toml_read.specs.StopsAt.{why_of, MissesKey, MissesString, ReadsKeyAt, IsKeyOf}
+use Rattle.basic_toml_read.specs.StopsAt.{why_of, ReadsKeyAt, IsKeyOf}
 use Rattle.basic_toml_read.specs.AtPlace.{Leaves}
-use Rattle.basic_toml_read.specs.Word.{value_offset}
 use Rattle.basic_toml_grammar.proofs.Grammar.StringsAreRead.{string_found, string_read}
 use Rattle.basic_toml_grammar.proofs.Grammar.CopiesAgree.{copies_agree}
 use Rattle.basic_toml_explain.proofs.TakenTokenStands.{keylike_small}
-use Rattle.basic_toml_read.proofs.GoesOn.{then_from}
-use Rattle.basic_toml_read.proofs.WordIsRead.{run_small, word_text, word_stands}
+use Rattle.basic_toml_read.proofs.GoesOn.{same_found, then_from}
+use Rattle.basic_toml_read.proofs.WordIsRead.{run_small, word_text}
 
 -- the bytes of a bare key
 pub bare_text : (bytes : List ℕ) (at end : ℕ) → IsRun is_keylike bytes at end
@@ -77,28 +76,20 @@ no_bare_key [] e = refl
 no_bare_key (x ∷ text) e =
     elim (cases_Bool (is_keylike x.1)) [ | inl h ↦ (let there = rw h at e in cc) | inr h ↦ rw h refl ]
 
-key_by_string : (text : Text) (o : Option reader.Quoted) → run is_keylike text ≡ [] → string_at text ≡ o
+pub key_by_string : (text : Text) (o : Option reader.Quoted) → run is_keylike text ≡ [] → string_at text ≡ o
     → key_at text ≡ and_then o quoted_key
 key_by_string text o e s = rw (no_bare_key text e, s) refl
 
-pub no_key : (text : Text) → run is_keylike text ≡ [] → string_at text ≡ None → key_at text ≡ None
-no_key text e s = key_by_string text None e s
-
 -- strings of the code
-pub string_is : (bytes : List ℕ) (at : ℕ) (q : Quoted) (s : IsQuoted bytes at q)
-    → string_at (text_at bytes at)
-    ≡ Some (record { offset = at; multiline = q.multiline; value = s.value; rest = text_at bytes q.end })
-string_is bytes at q s = string_found s.string
-
 pub string_key : (bytes : List ℕ) (at : ℕ) (q : Quoted) (result : Result Keyed Stop)
     → run is_keylike (text_at bytes at) ≡ [] → IsQuoted bytes at q → IsKeyOf q at result → ReadsKeyAt bytes at result
 string_key bytes at q (Ok k) none s (one_line, same, end) = rw end (
-  key_by_string (text_at bytes at) _ none (string_is bytes at q s) ∙ rw (one_line, same, s.spelled) refl,
+  key_by_string (text_at bytes at) _ none (string_found s.string) ∙ rw (one_line, same, s.spelled) refl,
   s.boundary,
   s.forward,
 )
 string_key bytes at q (Err stop) none s (inl (lines, is)) = rw is (
-  key_by_string (text_at bytes at) _ none (string_is bytes at q s) ∙ rw lines refl,
+  key_by_string (text_at bytes at) _ none (string_found s.string) ∙ rw lines refl,
   λ _. refl,
 )
 string_key bytes at q (Err stop) none s (inr (is, _, _)) = rw is (tt, λ h. cc)
@@ -111,22 +102,13 @@ why_by Q why e m k = k (λ h. cc)
 refused_none : (bytes : List ℕ) (at : ℕ) (r : TokenStop) → IsRefused bytes at r → (r.error ≡ OutOfMemory → ⊥)
     → string_at (text_at bytes at) ≡ None
 refused_none bytes at r (inr m) other = absurd (other m.0)
-refused_none bytes at r (inl b) other = go (string_at (text_at bytes at)) refl
-  where
-    go : (o : Option reader.Quoted) → string_at (text_at bytes at) ≡ o → o ≡ None
-    go None e = refl
-    go (Some s) e = absurd (no_break (string_read (text_at bytes at) s e) b.0)
+refused_none bytes at r (inl b) other =
+    same_found (string_at (text_at bytes at)) None
+    (λ s e. absurd (no_break (string_read (text_at bytes at) s e) b.0)) (λ s e. cc)
 
-pub key_refused : (bytes : List ℕ) (at : ℕ) (r : TokenStop) → run is_keylike (text_at bytes at) ≡ []
-    → IsRefused bytes at r → MissesKey (why_of r.error Key) (text_at bytes at)
-key_refused bytes at r none is =
-    why_by (λ why. MissesKey why (text_at bytes at)) Key r.error tt
-    (λ other. no_key (text_at bytes at) none (refused_none bytes at r is other))
-
-pub string_refused : (bytes : List ℕ) (at : ℕ) (r : TokenStop) → IsRefused bytes at r
-    → MissesString (why_of r.error Value) (text_at bytes at)
-string_refused bytes at r is =
-    why_by (λ why. MissesString why (text_at bytes at)) Value r.error tt (λ other. refused_none bytes at r is other)
+pub refused_by : (bytes : List ℕ) (at : ℕ) (r : TokenStop) (Q : Why → Type 0) (why : Why) → IsRefused bytes at r
+    → Q Memory → (string_at (text_at bytes at) ≡ None → Q why) → Q (why_of r.error why)
+refused_by bytes at r Q why is m k = why_by Q why r.error m (λ other. k (refused_none bytes at r is other))
 
 module _ (bytes : List ℕ) (at : ℕ) (whole : IsUtf8 bytes) (here : IsCharBoundary bytes at) where
   abbrev pub value_to : ℕ → List ℕ → Bool → reader.Valued
@@ -154,12 +136,3 @@ word_run bytes at end whole here l some =
         l.forward,
       )),
     )
-
-pub word_value_is : (bytes : List ℕ) (at end : ℕ) (word : List ℕ) (v : sections.Raw)
-    → word ≡ run is_wordlike (text_at bytes at) → (run is_wordlike (text_at bytes at) ≡ [] → ⊥)
-    → text_at bytes end ≡ after_run is_wordlike (text_at bytes at) → Some v ≡ word_value word
-    → word_at (text_at bytes at)
-    ≡ Some (record { offset = value_offset at at word v; value = v; rest = text_at bytes end })
-word_value_is bytes at end word v e some left told =
-    rw e (word_stands bytes at (text_at bytes end) v (λ h. some (ap (run is_wordlike) h)) left
-    (ap word_value (sym e) ∙ sym told))

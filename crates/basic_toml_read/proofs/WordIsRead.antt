@@ -61,16 +61,12 @@ word_text bytes start end whole begins ends rest =
     (run_small is_wordlike wordlike_small (text_at bytes start)))
 
 -- what the grammar has at a word
-pub word_stands : (bytes : List ℕ) (start : ℕ) (rest : Text) (v : Raw) → (text_at bytes start ≡ [] → ⊥)
-    → rest ≡ after_run is_wordlike (text_at bytes start)
-    → word_value (run is_wordlike (text_at bytes start)) ≡ Some v
+pub word_stands : (bytes : List ℕ) (start end : ℕ) (word : List ℕ) (v : Raw)
+    → word ≡ run is_wordlike (text_at bytes start) → (run is_wordlike (text_at bytes start) ≡ [] → ⊥)
+    → text_at bytes end ≡ after_run is_wordlike (text_at bytes start) → Some v ≡ word_value word
     → word_at (text_at bytes start)
-    ≡ Some (record {
-      offset = value_offset start start (run is_wordlike (text_at bytes start)) v;
-      value = v;
-      rest = rest;
-    })
-word_stands bytes start rest v some rest_is e = go (text_at bytes start) refl
+    ≡ Some (record { offset = value_offset start start word v; value = v; rest = text_at bytes end })
+word_stands bytes start end word v is some rest_is told = rw is (go (text_at bytes start) refl)
   where
     offset_same : (t : Text) (p : ℕ) (v : Raw) → p ≡ start
         → word_offset v p t ≡ value_offset start start (run is_wordlike t) v
@@ -81,12 +77,15 @@ word_stands bytes start rest v some rest_is e = go (text_at bytes start) refl
         by (Some i) = omega arith
     offset_same t p _ h = h
 
-    go : (t : Text) → text_at bytes start ≡ t
-        → word_at t ≡ Some (record { offset = value_offset start start (run is_wordlike t) v; value = v; rest = rest })
-    go [] h = absurd (some h)
+    go : (t : Text) → text_at bytes start ≡ t → word_at t ≡ Some (record {
+      offset = value_offset start start (run is_wordlike t) v;
+      value = v;
+      rest = text_at bytes end;
+    })
+    go [] h = absurd (some (ap (run is_wordlike) h))
     go (x ∷ t) h =
         let there : word_value (run is_wordlike (x ∷ t)) ≡ Some v =
-        ap (λ (t : Text). word_value (run is_wordlike t)) (sym h) ∙ e in
+        ap (λ (t : Text). word_value (run is_wordlike t)) (sym h) ∙ ap word_value (sym is) ∙ sym told in
         then_from _ there ∙ rw (offset_same (x ∷ t) x.0 v (offset_is bytes start x t h), rest_is, h) refl
 
 pub word_missing : (t : Text) → word_value (run is_wordlike t) ≡ None → word_at t ≡ None

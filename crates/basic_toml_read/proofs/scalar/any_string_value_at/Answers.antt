@@ -2,7 +2,10 @@ use Rattle.std.proofs.Common.{◌∙◌, refl}
 use Rattle.std.specs.Cow.{cow_str_bytes}
 use Rattle.basic_toml_tokens.specs.String.{is_owned}
 use Rattle.basic_toml_grammar.specs.Sections as sections
-use Rattle.basic_toml_read.proofs.ScalarsRead.{string_to, string_refused}
+use Rattle.basic_toml_tokens.specs.Text.{text_at}
+use Rattle.basic_toml_explain.specs.declared.stop.Why.TheVariants.{Value}
+use Rattle.basic_toml_read.specs.StopsAt.{MissesString}
+use Rattle.basic_toml_read.proofs.ScalarsRead.{string_to, refused_by}
 use Rattle.basic_toml_read.proofs.scalar.any_string_value_at.Goals as goal
 
 pub returns-in-Ok-clause-read : goal.returns-in-Ok-clause-read
@@ -19,8 +22,12 @@ returns-in-Ok-clause-read c = record {
 
 pub returns-in-Err-clause-read : goal.returns-in-Err-clause-read
 returns-in-Err-clause-read c =
-    rw c.refused.ensures
-    (string_refused c.args.text.now c.args.at c.in-Err.refusal c.in-Err.ensures, λ _. refl)
+    let here = text_at c.args.text.now c.args.at in
+    rw c.refused.ensures (
+      refused_by c.args.text.now c.args.at c.in-Err.refusal (λ why. MissesString why here) Value c.in-Err.ensures tt
+          (λ none. none),
+      λ _. refl,
+    )
 
 pub returns-in-Ok-clause-kept : goal.returns-in-Ok-clause-kept
 returns-in-Ok-clause-kept c =

@@ -1,5 +1,8 @@
-use Rattle.std.proofs.Common.{refl}
-use Rattle.basic_toml_read.proofs.ScalarsRead.{string_key, key_refused}
+use Rattle.std.proofs.Common.{None, refl}
+use Rattle.basic_toml_tokens.specs.Text.{text_at}
+use Rattle.basic_toml_explain.specs.declared.stop.Why.TheVariants.{Key}
+use Rattle.basic_toml_read.specs.StopsAt.{MissesKey}
+use Rattle.basic_toml_read.proofs.ScalarsRead.{key_by_string, refused_by, string_key}
 use Rattle.basic_toml_read.proofs.scalar.quoted_key_at.Goals as goal
 
 pub returns-in-Ok-clause-read : goal.returns-in-Ok-clause-read
@@ -8,5 +11,9 @@ returns-in-Ok-clause-read c =
 
 pub returns-in-Err-clause-read : goal.returns-in-Err-clause-read
 returns-in-Err-clause-read c =
-    rw c.refused.ensures
-    (key_refused c.args.text.now c.args.at c.in-Err.refusal c.requires.none c.in-Err.ensures, λ _. refl)
+    let here = text_at c.args.text.now c.args.at in
+    rw c.refused.ensures (
+      refused_by c.args.text.now c.args.at c.in-Err.refusal (λ why. MissesKey why here) Key c.in-Err.ensures tt
+          (key_by_string here None c.requires.none),
+      λ _. refl,
+    )

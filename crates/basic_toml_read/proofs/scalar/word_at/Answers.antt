@@ -8,8 +8,8 @@ use Rattle.basic_toml_tokens.specs.Reading.{between}
 use Rattle.basic_toml_grammar.specs.Sections.{Raw}
 use Rattle.basic_toml_read.specs.declared.section.Raw.{the_lemmas}
 use Rattle.basic_toml_read.specs.Word.{raw_of}
-use Rattle.basic_toml_read.proofs.ScalarsRead.{word_run, word_value_is}
-use Rattle.basic_toml_read.proofs.WordIsRead.{digits_here, word_missing}
+use Rattle.basic_toml_read.proofs.ScalarsRead.{word_run}
+use Rattle.basic_toml_read.proofs.WordIsRead.{digits_here, word_missing, word_stands}
 use Rattle.basic_toml_explain.proofs.TakenTokenStands.{run_over}
 use Rattle.basic_toml_grammar.specs.Grammar.{word_value}
 use Rattle.basic_toml_read.proofs.scalar.word_at.Goals.{in-Some+else-ends_word, in-None}
@@ -39,7 +39,7 @@ returns-clause-read c =
     record {
       raw = raw_of c.in-Some-2.value;
       seen = c.raw.ensures;
-      is = rw c.value_offset.ensures (word_value_is c.args.text.now c.args.at c.end_of_word-after.result
+      is = rw c.value_offset.ensures (word_stands c.args.text.now c.args.at c.end_of_word-after.result
           c.range-word.result.now (raw_of c.in-Some-2.value) (c.range-word.ensures.value ∙ word.0) word.1 l.left told);
       boundary = l.boundary;
       later = omega (arith, l.forward, c.if-at-after.false);
@@ -81,7 +81,7 @@ returns-then-ends_word-clause-read c =
     record {
       raw = Raw.integer z;
       seen = rw (to_z-of_z w64 z fits) (search (rules, the_lemmas));
-      is = word_value_is bytes at (at + count) (between bytes at (at + count)) (Raw.integer z) word.0 word.1 leaves.left
+      is = word_stands bytes at (at + count) (between bytes at (at + count)) (Raw.integer z) word.0 word.1 leaves.left
           here.value;
       boundary = leaves.boundary;
       later = omega (arith, here.some);

@@ -19,8 +19,7 @@ use Rattle.basic_toml_read.proofs.LinesGathered.{lines_start}
 use Rattle.basic_toml_read.proofs.ElementsGathered.{elements_missing, elements_more, elements_close}
 use Rattle.basic_toml_read.proofs.FieldsGathered.{fields_missing, fields_more, fields_close}
 use Rattle.basic_toml_read.proofs.NothingTooDeep.{its_row, its_value, row_keys}
-use Rattle.basic_toml_read.proofs.AfterKeys.{keys_missed, no_equals, row_there}
-use Rattle.basic_toml_read.proofs.AfterKeys.{to_its_value, value_deep, value_missing}
+use Rattle.basic_toml_read.proofs.AfterKeys.{keys_missed, no_equals, row_there, value_stop}
 use Rattle.basic_toml_read.proofs.InBrackets.{added_to, array_answered, inline_answered}
 use Rattle.basic_toml_read.proofs.ViewsSeen.{array_of, lines_none}
 use Rattle.basic_toml_read.proofs.ScalarValues.{string_answered, word_answered}
@@ -158,15 +157,9 @@ row-returns-in_default t c = no_equals c.in_ok-last.ensures.read c.in_default.en
 
 pub row-returns-in_err-valued : goal.row-returns-in_err-valued
 row-returns-in_err-valued t c =
-    let k = c.in_ok-last.ensures.read in
-    let left = c.after_blanks.ensures in
-    let sign = c.in-Some.ensures in
-    let stop = c.in_err-valued.field-0.0 in
-    let e = c.in_err-valued.ensures in
-    let deep = value_deep k left sign in
-    rw (is_err c.from_residual-in_err-valued.ensures.1) (stop_in_whole _ _ _ _ stop e
-    (value_missing k left sign stop.why e.read) deep.leads (λ none. deep.backs)
-    (to_its_value k left sign (hole_behind c.args.end)))
+    rw (is_err c.from_residual-in_err-valued.ensures.1)
+    (value_stop c.in_ok-last.ensures.read c.after_blanks.ensures c.in-Some.ensures c.in_err-valued.field-0.0
+    (hole_behind c.args.end) c.in_err-valued.ensures)
 
 pub row-returns-clause-read : goal.row-returns-clause-read
 row-returns-clause-read t c =
