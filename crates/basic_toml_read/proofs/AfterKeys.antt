@@ -1,6 +1,6 @@
 -- A row after its keys: what is read of it, what is too deep in its value, and the holes of its value.
-use Rattle.std.proofs.Common.{◌≡◌, ◌≤◌, ◌+◌, ◌-◌, ℕ, suc, List, [], ◌∷◌, ◌++◌, length, refl, ap, sym, ◌∙◌, arith}
-use Rattle.std.proofs.Common.{inr, length-append, Some, None, ◌<◌, subst, Option, Vec, Global}
+use Rattle.std.proofs.Common.{◌≡◌, ◌≤◌, ◌+◌, ◌-◌, ℕ, suc, List, [], ◌∷◌, ◌++◌, length, refl, ap, sym, ◌∙◌, arith, inr}
+use Rattle.std.proofs.Common.{length-append, Some, None, ◌<◌, subst, Option, Vec, Global}
 use Rattle.std.proofs.lemmas.List.{length-map}
 use Rattle.basic_toml_value.specs.Nesting.{nesting_limit}
 use Rattle.basic_toml_tokens.specs.Text.{Text, text_at, after_blanks}

@@ -1,15 +1,15 @@
 -- The elements of an array, one by one.
-use Rattle.std.proofs.Common.{inr, ◌≡◌, ℕ, ◌<◌, ◌≤◌, List, [], ◌∷◌, ◌++◌, max, refl, ap, sym, ◌∙◌, arith}
-use Rattle.std.proofs.Common.{append_assoc, Some, None, Result, Ok, Err, Vec, Global}
+use Rattle.std.proofs.Common.{◌+◌, ◌*◌, length, inr, ◌≡◌, ℕ, ◌<◌, ◌≤◌, List, [], ◌∷◌, ◌++◌, max, refl, ap, sym, ◌∙◌}
+use Rattle.std.proofs.Common.{arith, append_assoc, Some, None, Result, Ok, Err, Vec, Global}
 use Rattle.std.specs.Str.{IsCharBoundary}
 use Rattle.basic_toml_value.specs.Nesting.{nesting_limit}
-use Rattle.basic_toml_tokens.specs.Text.{text_at}
+use Rattle.basic_toml_tokens.specs.Text.{StartsWith, text_at, is_comment}
 use Rattle.basic_toml_tokens.specs.Punctuation.{IsPunctuationEnd}
 use Rattle.basic_toml_grammar.specs.Sections.{Elements, no_elements, element}
 use Rattle.basic_toml_grammar.specs.Entering.{and_then}
 use Rattle.basic_toml_grammar.specs.Levels.{value_level, elements_level}
 use Rattle.basic_toml_grammar.specs.Reader.{char_at}
-use Rattle.basic_toml_grammar.specs.DeepStops.{DeepElements}
+use Rattle.basic_toml_grammar.specs.DeepStops.{DeepElements, later_element}
 use Rattle.basic_toml_explain.specs.declared.stop.Stop.{Stop}
 use Rattle.basic_toml_explain.specs.declared.stop.Why.{Why}
 use Rattle.basic_toml_explain.specs.declared.stop.Why.TheVariants as why
@@ -23,12 +23,14 @@ use Rattle.basic_toml_read.specs.StopsAt.{Misses}
 use Rattle.basic_toml_read.specs.Gathers.{lines_of, IsValueRead, ClosesAt, ReadsElements}
 use Rattle.basic_toml_read.specs.StopsReached.{LeadsTo, in_elements}
 use Rattle.basic_toml_grammar.proofs.Grammar.ReaderIsComplete.{gap}
-use Rattle.basic_toml_read.proofs.StandsIn.{Answered, SameDeep, then_deep, stops_on, then_in}
+use Rattle.basic_toml_read.proofs.StandsIn.{Answered, nothing_fits, SameDeep, then_deep, stops_on, then_in}
 use Rattle.basic_toml_read.proofs.StandsIn.{without_stop}
-use Rattle.basic_toml_read.proofs.FurtherOn.{past_element, holes_past_element, last_element, unclosed_array}
+use Rattle.basic_toml_grammar.proofs.Nesting.WithinTheLimit as within
+use Rattle.basic_toml_grammar.proofs.Grammar.ReaderIsSound.{value_read}
+use Rattle.basic_toml_grammar.specs.Grammar.{IsValue}
+use Rattle.basic_toml_grammar.specs.Holes.{Hole, HoleInElements}
 use Rattle.basic_toml_read.proofs.EnoughSteps.{after_value, elements_is}
-use Rattle.basic_toml_read.proofs.GoesOn.{after, after_from, after_one, first_of, found_from, misses_after}
-use Rattle.basic_toml_read.proofs.GoesOn.{then_from}
+use Rattle.basic_toml_read.proofs.GoesOn.{after, after_from, after_one, first_of, found_from, misses_after, then_from}
 use Rattle.basic_toml_read.proofs.LeftAfter.{sign_there, sign_missing}
 use Rattle.basic_toml_read.proofs.ViewsSeen.{element_seen}
 
@@ -80,6 +82,10 @@ module _ {bytes : List ℕ} {start level at : ℕ} {old new : Gathered} (s : Ele
       module _ {mid : Gathered} {v : Valued} {after' : ℕ} (r : IsValueRead bytes at level new mid v)
           (left : Leaves bytes v.end after' (gap (text_at bytes v.end))) (elements : Vec Element Global)
           (pushed : elements.items ≡ mid.elements.items ++ element_of v ∷ []) where
+        value_stands : IsValue is_comment (text_at bytes at) v.offset r.found.raw (text_at bytes v.end)
+        unfolding value_of
+        value_stands = value_read (4 * length (text_at bytes at) + 1) (text_at bytes at) _ r.found.is
+
         this : Elements → Elements
         this es = element v.offset r.found.raw es
 
@@ -106,31 +112,41 @@ module _ {bytes : List ℕ} {start level at : ℕ} {old new : Gathered} (s : Ele
             → IsPunctuationEnd 44 bytes after' (Some next)
             → ElementsSoFar bytes start level at' old (with_elements mid elements)
         unfolding this
-        elements_more {next = next} later sign = record {
+        elements_more {next = next} later sign =
+            let comma : StartsWith 44 (gap (text_at bytes v.end)) after' (text_at bytes next) =
+            sym left.left ∙ sign.0 in record {
           got = s.got ++ element_of v ∷ [];
           join = λ es. s.join (this es);
           seen = λ more. ap elements_view (append_assoc s.got (element_of v ∷ []) more) ∙ view' more;
           high = λ es. omega (arith, ap (elements_level level) (view' []), s.high (this no_elements), s.high (this es));
           told = rw later.left (told'
-              ∙ after_from _ (found_from _ _ (ap (char_at 44) (sym left.left) ∙ sign_there sign.0))
+              ∙ after_from _ (found_from _ _ (sign_there comma))
               ∙ after_one _ _ _ (elements_of (gap (text_at bytes next))) (λ es. refl));
           pushed = pushed';
           lines = r.keeps.lines ∙ s.lines;
           limit = limit';
           boundary = later.boundary;
           forward = omega (arith, s.forward, r.found.later, left.forward, sign.2, later.forward);
-          deep = then_deep (past_element r left sign later) s.deep;
-          holes = then_in (holes_past_element r left sign later) s.holes;
+          deep = then_deep (rw later.left (record {
+            leads = λ p d. later_element value_stands r.limit comma d;
+            backs = λ p d. within.past_element value_stands r.limit comma d;
+          })) s.deep;
+          holes = then_in (rw later.left (record {
+            on = λ h at d. HoleInElements.later_element value_stands comma d;
+            same = λ at d. refl;
+          })) s.holes;
         }
 
         -- where no comma follows
         module _ (none : IsPunctuationEnd 44 bytes after' None) where
+          no_comma : char_at 44 (gap (text_at bytes v.end)) ≡ None
+          no_comma = ap (char_at 44) (sym left.left) ∙ sign_missing 44 (text_at bytes after') none
+
           last_on : elements_of (text_at bytes start)
               ≡ after s.join (and_then (char_at 93 (text_at bytes after')) (λ s. Some (this no_elements, s.1)))
           unfolding this
           last_on = told' ∙ after_from _
-              (found_from _ _ (ap (char_at 44) (sym left.left) ∙ sign_missing 44 (text_at bytes after') none)
-              ∙ then_from _ (ap (char_at 93) (sym left.left)))
+              (found_from _ _ no_comma ∙ then_from _ (ap (char_at 93) (sym left.left)))
 
           pub elements_close : (result : Result ℕ Stop) → ClosesAt 93 why.Bracket bytes after' result
               → Answered bytes (ReadsElements bytes start level old (with_elements mid elements))
@@ -148,6 +164,14 @@ module _ {bytes : List ℕ} {start level at : ℕ} {old new : Gathered} (s : Ele
           elements_close (Err stop) closes = rw closes.1 (record {
             read = last_on ∙ after_from _ (then_from _ closes.0);
             inside = inr left.boundary;
-            deep = λ p d. last_element r left none p (s.deep.backs p d);
-            hole = stops_on s.holes why.Bracket (text_at bytes after') (unclosed_array r left none closes.0);
+            deep = λ p d. within.last_element value_stands r.limit no_comma (s.deep.backs p d);
+            hole = stops_on s.holes why.Bracket (text_at bytes after') (record {
+              wanted = Hole.after_element;
+              takes = refl;
+              misses = record {
+                hole = rw left.left (HoleInElements.after_this value_stands);
+                missing = nothing_fits Hole.after_element 44 93 (text_at bytes after')
+                    (sign_missing 44 (text_at bytes after') none) closes.0 (λ c. refl);
+              };
+            });
           })

@@ -1,7 +1,7 @@
 -- What stands at the front of a text does not depend on the bound on the steps, where it is large enough. So it is told
 -- by what stands at the front of shorter texts.
-use Rattle.std.proofs.Common.{◌≡◌, ℕ, suc, ◌+◌, ◌*◌, ◌<◌, ◌≤◌, true, false, [], ◌∷◌, length, refl, ap}
-use Rattle.std.proofs.Common.{◌∙◌, arith, List, Option, Some}
+use Rattle.std.proofs.Common.{◌≡◌, ℕ, suc, ◌+◌, ◌*◌, ◌<◌, ◌≤◌, true, false, [], ◌∷◌, length, refl, ap, ◌∙◌, arith, List}
+use Rattle.std.proofs.Common.{Option, Some}
 use Rattle.std.specs.Option.{option_or}
 use Rattle.basic_toml_tokens.specs.Text.{Text, after_blanks}
 use Rattle.basic_toml_grammar.specs.Sections.{Key, Raw, Elements, Rows, Section, no_elements, element, no_rows, row}

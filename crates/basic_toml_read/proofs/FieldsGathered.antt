@@ -2,13 +2,13 @@
 use Rattle.std.proofs.Common.{inr, ◌≡◌, ℕ, ◌<◌, ◌≤◌, List, refl, ap, sym, ◌∙◌, arith, Some, None, Result, Ok, Err}
 use Rattle.std.specs.Str.{IsCharBoundary}
 use Rattle.basic_toml_value.specs.Nesting.{nesting_limit}
-use Rattle.basic_toml_tokens.specs.Text.{text_at, after_blanks}
+use Rattle.basic_toml_tokens.specs.Text.{StartsWith, text_at, after_blanks}
 use Rattle.basic_toml_tokens.specs.Punctuation.{IsPunctuationEnd}
 use Rattle.basic_toml_grammar.specs.Sections.{no_rows}
 use Rattle.basic_toml_grammar.specs.Entering.{and_then}
 use Rattle.basic_toml_grammar.specs.Levels.{rows_level}
 use Rattle.basic_toml_grammar.specs.Reader.{char_at}
-use Rattle.basic_toml_grammar.specs.DeepStops.{DeepFields}
+use Rattle.basic_toml_grammar.specs.DeepStops.{DeepFields, later_field}
 use Rattle.basic_toml_explain.specs.declared.stop.Stop.{Stop}
 use Rattle.basic_toml_explain.specs.declared.stop.Why.{Why}
 use Rattle.basic_toml_explain.specs.declared.stop.Why.TheVariants as why
@@ -16,16 +16,16 @@ use Rattle.basic_toml_read.specs.declared.values.Gathered.{Gathered}
 use Rattle.basic_toml_read.specs.FrontOf.{fields_of, fields_on_of, row_of}
 use Rattle.basic_toml_read.specs.AtPlace.{Leaves}
 use Rattle.basic_toml_read.specs.StopsAt.{Misses}
-use Rattle.basic_toml_read.specs.Gathers.{Lines, and_lines, row_level, IsRowRead}
-use Rattle.basic_toml_read.specs.Gathers.{ClosesAt, ReadsFields}
+use Rattle.basic_toml_read.specs.Gathers.{Lines, and_lines, row_level, IsRowRead, ClosesAt, ReadsFields}
 use Rattle.basic_toml_read.specs.StopsReached.{LeadsTo, in_fields, in_fields_on}
-use Rattle.basic_toml_read.proofs.StandsIn.{Answered, without_stop, SameDeep, then_deep, stops_on, then_in}
-use Rattle.basic_toml_read.proofs.FurtherOn.{past_field, holes_past_field, last_field, unclosed_fields}
+use Rattle.basic_toml_read.proofs.StandsIn.{Answered, nothing_fits, without_stop, SameDeep, then_deep, stops_on}
+use Rattle.basic_toml_read.proofs.StandsIn.{then_in}
+use Rattle.basic_toml_grammar.proofs.Nesting.WithinTheLimit as within
+use Rattle.basic_toml_grammar.specs.Holes.{Hole, HoleInFieldsOn}
 use Rattle.basic_toml_read.proofs.EnoughSteps.{after_field, fields_on_is}
-use Rattle.basic_toml_read.proofs.GoesOn.{after, after_from, after_one, first_of, found_from, misses_after}
-use Rattle.basic_toml_read.proofs.GoesOn.{then_from}
+use Rattle.basic_toml_read.proofs.GoesOn.{after, after_from, after_one, first_of, found_from, misses_after, then_from}
 use Rattle.basic_toml_read.proofs.LeftAfter.{sign_there, sign_missing}
-use Rattle.basic_toml_read.proofs.LinesGathered.{LinesSoFar, row_first, lines_more, view_more}
+use Rattle.basic_toml_read.proofs.LinesGathered.{LinesSoFar, row_first, row_stands, lines_more, view_more}
 
 -- the rows of an inline table up to an offset
 pub record FieldsSoFar (bytes : List ℕ) (start level at : ℕ) (old new : Gathered) : Type 0 where
@@ -62,15 +62,23 @@ module _ {bytes : List ℕ} {start level at : ℕ} {old new : Gathered} (s : Fie
     pub fields_more : {next at' : ℕ} → Leaves bytes next at' (after_blanks (text_at bytes next))
         → IsPunctuationEnd 44 bytes after' (Some next) → FieldsSoFar bytes start level at' old new'
     unfolding lines_more
-    fields_more {next = next} later sign = record {
+    fields_more {next = next} later sign =
+        let comma : StartsWith 44 (after_blanks (text_at bytes end)) after' (text_at bytes next) =
+        sym left.left ∙ sign.0 in record {
       got = and_lines s.got r.added;
       lines = lines_more s.lines r;
       told = rw later.left (told' ∙ after_from _ (found_from _ _ (ap (char_at 44) rest' ∙ sign_there sign.0))
           ∙ after_one _ _ _ (fields_on_of (after_blanks (text_at bytes next))) (λ rs. refl));
       boundary = later.boundary;
       forward = omega (arith, s.forward, r.later, left.forward, sign.2, later.forward);
-      deep = then_deep (past_field r left sign later) s.deep;
-      holes = then_in (holes_past_field r left sign later) s.holes;
+      deep = then_deep (rw later.left (record {
+        leads = λ p d. later_field (row_stands r) r.limit comma d;
+        backs = λ p d. within.past_field (row_stands r) r.limit comma d;
+      })) s.deep;
+      holes = then_in (rw later.left (record {
+        on = λ h at d. HoleInFieldsOn.later_row (row_stands r) comma d;
+        same = λ at d. refl;
+      })) s.holes;
     }
 
     -- where no comma follows
@@ -100,6 +108,11 @@ module _ {bytes : List ℕ} {start level at : ℕ} {old new : Gathered} (s : Fie
       fields_close (Err stop) closes = rw closes.1 (record {
         read = last_on ∙ after_from _ (then_from _ closes.0);
         inside = inr left.boundary;
-        deep = λ p d. last_field r left none p (s.deep.backs p d);
-        hole = stops_on s.holes why.Comma (text_at bytes after') (unclosed_fields r left none closes.0);
+        deep = λ p d. within.last_field (row_stands r) r.limit
+            (ap (char_at 44) (sym left.left) ∙ sign_missing 44 (text_at bytes after') none) (s.deep.backs p d);
+        hole = stops_on s.holes why.Comma (text_at bytes after') (record {
+          hole = rw left.left (HoleInFieldsOn.after_row (row_stands r));
+          missing = nothing_fits Hole.after_field 44 125 (text_at bytes after')
+              (sign_missing 44 (text_at bytes after') none) closes.0 (λ c. refl);
+        });
       })

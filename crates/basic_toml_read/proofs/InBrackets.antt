@@ -1,6 +1,6 @@
 -- Arrays and inline tables: as values, by what stands in their brackets, and whole.
-use Rattle.std.proofs.Common.{◌≡◌, ℕ, ◌+◌, ◌<◌, ◌≤◌, List, ◌++◌, length, drop, take, refl, ◌∙◌}
-use Rattle.std.proofs.Common.{arith, Some, None, Option, Result, Ok, Err, subst}
+use Rattle.std.proofs.Common.{◌≡◌, ℕ, ◌+◌, ◌<◌, ◌≤◌, List, ◌++◌, length, drop, take, refl, ◌∙◌, arith, Some, None}
+use Rattle.std.proofs.Common.{Option, Result, Ok, Err, subst}
 use Rattle.std.proofs.Math.Seq.{drop-append_seam, take-append_seam}
 use Rattle.std.specs.Str.{IsCharBoundary}
 use Rattle.basic_toml_value.specs.Nesting.{nesting_limit}

@@ -1,11 +1,10 @@
 -- Keys one after another, up to an offset; and those of a row, as they are gathered.
-use Rattle.std.proofs.Common.{refl, inr, ◌≡◌, ℕ, ◌+◌, ◌-◌, ◌<◌, ◌≤◌, List, [], ◌∷◌, ◌++◌, length, ap, sym, ◌∙◌}
-use Rattle.std.proofs.Common.{arith, append_assoc, length-append, Option, Some, None, Ok, Err}
-use Rattle.std.proofs.Common.{map}
+use Rattle.std.proofs.Common.{refl, inr, ◌≡◌, ℕ, ◌+◌, ◌-◌, ◌<◌, ◌≤◌, List, [], ◌∷◌, ◌++◌, length, ap, sym, ◌∙◌, arith}
+use Rattle.std.proofs.Common.{append_assoc, length-append, Option, Some, None, Ok, Err, map}
 use Rattle.std.specs.Str.{IsCharBoundary}
 use Rattle.std.proofs.lemmas.List.{length-map, map-append}
 use Rattle.basic_toml_value.specs.Nesting.{nesting_limit}
-use Rattle.basic_toml_tokens.specs.Text.{Text, text_at, after_blanks}
+use Rattle.basic_toml_tokens.specs.Text.{Text, StartsWith, text_at, after_blanks}
 use Rattle.basic_toml_tokens.specs.Punctuation.{IsPunctuationEnd}
 use Rattle.basic_toml_grammar.specs.Sections.{Key}
 use Rattle.basic_toml_grammar.specs.Entering.{and_then}
@@ -29,7 +28,7 @@ use Rattle.basic_toml_grammar.proofs.Grammar.StringsAreRead.{then_some}
 use Rattle.basic_toml_grammar.proofs.Grammar.ReaderIsSound.{key_read}
 use Rattle.basic_toml_grammar.proofs.Grammar.ReaderIsComplete.{key_found}
 use Rattle.basic_toml_read.proofs.StandsIn.{SameDeep, same_deep, then_deep}
-use Rattle.basic_toml_read.proofs.FurtherOn.{past_key, hole_past_key}
+use Rattle.basic_toml_grammar.proofs.Nesting.WithinTheLimit as within
 use Rattle.basic_toml_read.proofs.EnoughSteps.{keys_is}
 use Rattle.basic_toml_read.proofs.GoesOn.{after, after_from, after_none, after_one, first_of, found_from, then_from}
 use Rattle.basic_toml_read.proofs.LeftAfter.{sign_there, sign_missing}
@@ -135,19 +134,24 @@ module _ {bytes : List ℕ} {at first offset level : ℕ} {front : List code_key
         → IsPunctuationEnd 46 bytes end (Some next)
         → KeysTold bytes at first offset' (level + 1) (front ++ this ∷ [])
     told_more {next = next} later sign =
-        let found : char_at 46 (after_blanks (text_at bytes k.end)) ≡ Some (end, text_at bytes next) =
-        ap (char_at 46) (sym blanks.left) ∙ sign_there sign.0 in
+        let here = key_read (text_at bytes offset) (key_of this, text_at bytes k.end) key.0 in
+        let period : StartsWith 46 (after_blanks (text_at bytes k.end)) end (text_at bytes next) =
+        sym blanks.left ∙ sign.0 in
         record {
           told = rw (later.left, map-append key_of front (this ∷ [])) (s.told
-              ∙ after_from _ (keys_by_key (text_at bytes offset) (key_of this) (text_at bytes k.end) _ key.0 found)
+              ∙ after_from _ (keys_by_key (text_at bytes offset) (key_of this) (text_at bytes k.end) _ key.0
+              (sign_there period))
               ∙ after_one _ _ _ (keys_of (after_blanks (text_at bytes next)))
               (λ keys. sym (append_assoc (map key_of front) (key_of this ∷ []) keys)));
           level_is = omega (arith, s.level_is, length-append front (this ∷ []));
           low = omega arith;
           boundary = later.boundary;
           forward = omega (arith, s.forward, key.2, blanks.forward, later.forward, sign.2);
-          deep = then_deep (past_key offset key.0 blanks sign later high) s.deep;
-          holes = λ there d. s.holes there (hole_past_key offset key.0 blanks sign later there d);
+          deep = then_deep (rw later.left (record {
+            leads = λ p d. later_key high here period d;
+            backs = λ p d. within.past_key high here period d;
+          })) s.deep;
+          holes = λ there d. s.holes there (HoleInKeys.later_key here period (rw later.left at d));
         }
 
     -- no period

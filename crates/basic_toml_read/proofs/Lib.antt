@@ -15,7 +15,6 @@ pub mod RowsRead
 pub mod ListsRead
 pub mod SectionsHandedOut
 pub mod ListIsAnswered
-pub mod FurtherOn
 pub mod AfterKeys
 pub mod InBrackets
 pub mod NothingTooDeep

@@ -1,6 +1,10 @@
 -- Rows one after another, and the lines that stand for them.
-use Rattle.std.proofs.Common.{◌≡◌, ℕ, ◌≤◌, List, max, refl, ap, sym, ◌∙◌, arith}
+use Rattle.std.proofs.Common.{◌+◌, ◌*◌, length, ◌≡◌, ℕ, ◌≤◌, List, max, refl, ap, sym, ◌∙◌, arith}
 use Rattle.basic_toml_value.specs.Nesting.{nesting_limit}
+use Rattle.basic_toml_tokens.specs.Text.{text_at, is_comment}
+use Rattle.basic_toml_grammar.specs.Grammar.{IsRow}
+use Rattle.basic_toml_grammar.proofs.Grammar.ReaderIsSound.{row_read}
+use Rattle.basic_toml_read.specs.FrontOf.{row_of}
 use Rattle.basic_toml_grammar.specs.Sections.{Rows, no_rows, row}
 use Rattle.basic_toml_grammar.specs.Levels.{rows_level}
 use Rattle.basic_toml_grammar.specs.Reader.{Assigned}
@@ -11,6 +15,13 @@ use Rattle.basic_toml_read.proofs.ViewsSeen.{lines_assoc, lines_none}
 -- a row that was found, before others
 abbrev pub row_first : Assigned → Rows → Rows
 row_first r rs = row r.keys r.offset r.value rs
+
+-- a row that is read stands there
+pub row_stands : {bytes : List ℕ} {at level end : ℕ} {old new : Gathered} (r : IsRowRead bytes at level old new end)
+    → IsRow is_comment (text_at bytes at) r.found.keys r.found.offset r.found.value (text_at bytes end)
+unfolding row_of
+row_stands {bytes = bytes} {at = at} r =
+    rw (← r.rest) (row_read (4 * length (text_at bytes at) + 1) (text_at bytes at) r.found r.is)
 
 -- lines that were gathered, and how they join rows after them: each of their rows has its own parents, and they are
 -- within the limit

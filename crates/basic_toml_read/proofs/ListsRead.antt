@@ -24,8 +24,7 @@ use Rattle.basic_toml_read.specs.StopsAt.{Misses}
 use Rattle.basic_toml_read.specs.Lists.{AreRowsRead, NextAt, PassesGaps, Header, IsFrom, sections_from, section_seen}
 use Rattle.basic_toml_read.specs.Lists.{IsSectionRead, IsHeaderRead, EndsLineAt}
 use Rattle.basic_toml_read.specs.SectionsRead.{onto, ListSoFar, IsStop, IsList, left_after}
-use Rattle.basic_toml_read.specs.StopsReached.{LeadsTo, in_rows, in_text, IfDeepSection}
-use Rattle.basic_toml_read.specs.StopsReached.{InSectionHole, in_sections}
+use Rattle.basic_toml_read.specs.StopsReached.{LeadsTo, in_rows, in_text, IfDeepSection, InSectionHole, in_sections}
 use Rattle.basic_toml_read.specs.SectionView.{key_of}
 use Rattle.basic_toml_grammar.proofs.Grammar.StringsAreRead.{then_some}
 use Rattle.basic_toml_grammar.proofs.Nesting.WithinTheLimit as within

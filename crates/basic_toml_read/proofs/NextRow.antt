@@ -1,6 +1,6 @@
 -- The next of a table's rows, with its parents.
-use Rattle.std.proofs.Common.{◌≡◌, ℕ, ◌+◌, ◌<◌, List, [], ◌∷◌, ◌++◌, drop, take, length, get_or, map, refl, ap, sym, ◌∙◌}
-use Rattle.std.proofs.Common.{zero, suc, ◌-◌, ◌≤◌, arith, rules}
+use Rattle.std.proofs.Common.{◌≡◌, ℕ, ◌+◌, ◌<◌, List, [], ◌∷◌, ◌++◌, drop, take, length, get_or, map, refl, ap, sym}
+use Rattle.std.proofs.Common.{◌∙◌, zero, suc, ◌-◌, ◌≤◌, arith, rules}
 use Rattle.std.proofs.lemmas.List.{drop_more, take_rest, length-drop, take-map, drop-map}
 use Rattle.basic_toml_grammar.specs.Sections.{Rows, row}
 use Rattle.basic_toml_read.specs.declared.section.Raw.{the_lemmas}

@@ -30,12 +30,10 @@ use Rattle.basic_toml_read.proofs.NothingTooDeep.{line_row}
 use Rattle.basic_toml_read.proofs.EnoughSteps.{after_row, keys_is, row_is, rows_is, rows_is_none}
 use Rattle.basic_toml_read.proofs.LeftAfter.{sign_there, sign_missing, gap_past_line, gap_over, gap_ends_line}
 use Rattle.basic_toml_read.proofs.LeftAfter.{gap_has_no_bracket, line_of}
-use Rattle.basic_toml_read.proofs.GoesOn.{after, after_from, after_one, found_from, misses_after}
-use Rattle.basic_toml_read.proofs.GoesOn.{misses_none, then_from}
-use Rattle.basic_toml_read.proofs.StandsIn.{SameDeep, at_deep, then_deep, then_in}
-use Rattle.basic_toml_read.proofs.StandsIn.{StopIn, newline_stop, stops_on}
-use Rattle.basic_toml_read.proofs.FurtherOn.{row_stands}
-use Rattle.basic_toml_read.proofs.LinesGathered.{LinesSoFar, row_first, lines_alone, lines_more}
+use Rattle.basic_toml_read.proofs.GoesOn.{after, after_from, after_one, found_from, misses_after, misses_none}
+use Rattle.basic_toml_read.proofs.GoesOn.{then_from}
+use Rattle.basic_toml_read.proofs.StandsIn.{SameDeep, at_deep, then_deep, then_in, StopIn, newline_stop, stops_on}
+use Rattle.basic_toml_read.proofs.LinesGathered.{LinesSoFar, row_first, row_stands, lines_alone, lines_more}
 
 pub record RowsSoFar (bytes : List ℕ) (start level at : ℕ) (old new : Gathered) : Type 0 where
   pub got : Lines

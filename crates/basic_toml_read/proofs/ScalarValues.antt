@@ -1,6 +1,6 @@
 -- Strings and words as values: a scalar has no level, and where neither stands, a value is wanted.
-use Rattle.std.proofs.Common.{◌≡◌, ℕ, List, [], ◌∷◌, refl, ap, sym, ◌∙◌, arith, Option, Some, None, Result}
-use Rattle.std.proofs.Common.{Ok, Err, IfErr, ℤ, Bool, true, false, cond, encode_utf8_all}
+use Rattle.std.proofs.Common.{◌≡◌, ℕ, List, [], ◌∷◌, refl, ap, sym, ◌∙◌, arith, Option, Some, None, Result, Ok, Err}
+use Rattle.std.proofs.Common.{IfErr, ℤ, Bool, true, false, cond, encode_utf8_all}
 use Rattle.std.specs.Prelude.{codes}
 use Rattle.std.specs.Str.{bytes_eq}
 use Rattle.std.specs.Option.{option_or}

@@ -1,6 +1,6 @@
 -- A reader hands sections out one after another: where it is then, and what is left.
-use Rattle.std.proofs.Common.{inl, ◌≡◌, ℕ, ◌+◌, ◌<◌, ◌≤◌, ◌==◌, true, false, List, [], ◌∷◌, ◌++◌, length, refl}
-use Rattle.std.proofs.Common.{arith, Option, Some, None, Err}
+use Rattle.std.proofs.Common.{inl, ◌≡◌, ℕ, ◌+◌, ◌<◌, ◌≤◌, ◌==◌, true, false, List, [], ◌∷◌, ◌++◌, length, refl, arith}
+use Rattle.std.proofs.Common.{Option, Some, None, Err}
 use Rattle.std.proofs.lemmas.List.{nil_from_length}
 use Rattle.std.specs.Vec.{vec_len}
 use Rattle.basic_toml_tokens.specs.Text.{Text, folded}
@@ -18,8 +18,7 @@ use Rattle.basic_toml_read.specs.declared.section.Section as code
 use Rattle.basic_toml_read.specs.declared.values.Gathered.{Gathered}
 use Rattle.basic_toml_read.specs.SectionView.{rows_seen}
 use Rattle.basic_toml_read.specs.Gathers.{no_lines, lines_in, lines_of}
-use Rattle.basic_toml_read.specs.SectionsRead.{IsBehind, SoFar, IsEmpty, IsStop, ReadsOn}
-use Rattle.basic_toml_read.specs.SectionsRead.{left_after}
+use Rattle.basic_toml_read.specs.SectionsRead.{IsBehind, SoFar, IsEmpty, IsStop, ReadsOn, left_after}
 
 -- nothing is gathered
 pub none_gathered : (g : Gathered) → (vec_len g.rows == 0) ≡ true → (g.rows.items ≡ [] → g.parents.items ≡ [])

@@ -4,8 +4,8 @@ use Rattle.basic_toml_grammar.proofs.Nesting.WithinTheLimit.{no_header_there}
 use Rattle.basic_toml_read.proofs.StandsIn.{is_err}
 use Rattle.basic_toml_read.proofs.EnoughSteps.{header_is}
 use Rattle.basic_toml_read.proofs.GoesOn.{then_from}
-use Rattle.basic_toml_read.proofs.HeadersRead.{Opened, by_bracket, closed, half_closed, no_header_keys}
-use Rattle.basic_toml_read.proofs.HeadersRead.{one_bracket, two_brackets, unclosed}
+use Rattle.basic_toml_read.proofs.HeadersRead.{Opened, by_bracket, closed, half_closed, no_header_keys, one_bracket}
+use Rattle.basic_toml_read.proofs.HeadersRead.{two_brackets, unclosed}
 use Rattle.basic_toml_read.proofs.header.header_at.Goals.{After-after_blanks, After-after_blanks-in-Some}
 use Rattle.basic_toml_read.proofs.header.header_at.Goals as goal
 

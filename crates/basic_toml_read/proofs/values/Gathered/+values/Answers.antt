@@ -10,8 +10,8 @@ use Rattle.basic_toml_read.specs.SectionView.{elements_view}
 use Rattle.basic_toml_grammar.specs.Sections.{Elements, Raw}
 use Rattle.basic_toml_read.specs.StopsReached.{in_elements, in_fields, in_row}
 use Rattle.basic_toml_grammar.proofs.Nesting.WithinTheLimit as within
-use Rattle.basic_toml_read.proofs.StandsIn.{same_deep, stays_in}
-use Rattle.basic_toml_read.proofs.StandsIn.{is_err, at_deep, key_stops_on, moved_in, stop_in_whole, then_in}
+use Rattle.basic_toml_read.proofs.StandsIn.{same_deep, stays_in, is_err, at_deep, key_stops_on, moved_in, stop_in_whole}
+use Rattle.basic_toml_read.proofs.StandsIn.{then_in}
 use Rattle.basic_toml_read.proofs.LeftAfter.{sign_missing, sign_there}
 use Rattle.basic_toml_read.proofs.GoesOn.{after, after_from, after_none, found_from}
 use Rattle.basic_toml_read.proofs.EnoughSteps.{elements_is, fields_is}

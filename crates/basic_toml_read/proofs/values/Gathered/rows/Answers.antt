@@ -9,9 +9,8 @@ use Rattle.basic_toml_read.proofs.LinesGathered.{lines_start}
 use Rattle.basic_toml_read.specs.FrontOf.{rows_of}
 use Rattle.basic_toml_read.specs.Gathers.{no_lines}
 use Rattle.basic_toml_read.proofs.LeftAfter.{line_of, no_comment}
-use Rattle.basic_toml_read.proofs.RowsRead.{NoHeader, bracket_no_gap, comment_stops, line_here}
-use Rattle.basic_toml_read.proofs.RowsRead.{row_stops, rows_bracket, rows_empty, rows_more, rows_over}
-use Rattle.basic_toml_read.proofs.RowsRead.{sign_lacks, sign_stands, unended_stops}
+use Rattle.basic_toml_read.proofs.RowsRead.{NoHeader, bracket_no_gap, comment_stops, line_here, row_stops, rows_bracket}
+use Rattle.basic_toml_read.proofs.RowsRead.{rows_empty, rows_more, rows_over, sign_lacks, sign_stands, unended_stops}
 use Rattle.basic_toml_read.proofs.values.Gathered.rows.Goals.{After-after_comment, Else-is_some, Else-is_some-2}
 use Rattle.basic_toml_read.proofs.values.Gathered.rows.Goals as goal
 
