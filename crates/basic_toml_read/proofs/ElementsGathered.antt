@@ -32,7 +32,7 @@ use Rattle.basic_toml_grammar.specs.Holes.{Hole, HoleInElements}
 use Rattle.basic_toml_read.proofs.EnoughSteps.{after_value, elements_is}
 use Rattle.basic_toml_read.proofs.GoesOn.{after, after_from, after_one, first_of, found_from, misses_after, then_from}
 use Rattle.basic_toml_read.proofs.LeftAfter.{sign_there, sign_missing}
-use Rattle.basic_toml_read.proofs.ViewsSeen.{element_seen}
+use Rattle.basic_toml_read.proofs.ViewsSeen.{placed_is}
 
 -- an element more, as its value was read
 abbrev element_of : Valued → Element
@@ -93,7 +93,7 @@ module _ {bytes : List ℕ} {start level at : ℕ} {old new : Gathered} (s : Ele
             → elements_view (s.got ++ (element_of v ∷ more)) ≡ s.join (this (elements_view more))
         unfolding this
         view' more =
-            s.seen (element_of v ∷ more) ∙ ap s.join (rw (element_seen v.offset v.end v.value, r.found.seen) refl)
+            s.seen (element_of v ∷ more) ∙ ap s.join (rw (placed_is (element_of v), r.found.seen) refl)
 
         limit' : elements_level level (elements_view (s.got ++ element_of v ∷ [])) ≤ nesting_limit
         unfolding this
@@ -115,27 +115,28 @@ module _ {bytes : List ℕ} {start level at : ℕ} {old new : Gathered} (s : Ele
         elements_more {next = next} later sign =
             let comma : StartsWith 44 (gap (text_at bytes v.end)) after' (text_at bytes next) =
             sym left.left ∙ sign.0 in record {
-          got = s.got ++ element_of v ∷ [];
-          join = λ es. s.join (this es);
-          seen = λ more. ap elements_view (append_assoc s.got (element_of v ∷ []) more) ∙ view' more;
-          high = λ es. omega (arith, ap (elements_level level) (view' []), s.high (this no_elements), s.high (this es));
-          told = rw later.left (told'
-              ∙ after_from _ (found_from _ _ (sign_there comma))
-              ∙ after_one _ _ _ (elements_of (gap (text_at bytes next))) (λ es. refl));
-          pushed = pushed';
-          lines = r.keeps.lines ∙ s.lines;
-          limit = limit';
-          boundary = later.boundary;
-          forward = omega (arith, s.forward, r.found.later, left.forward, sign.2, later.forward);
-          deep = then_deep (rw later.left (record {
-            leads = λ p d. later_element value_stands r.limit comma d;
-            backs = λ p d. within.past_element value_stands r.limit comma d;
-          })) s.deep;
-          holes = then_in (rw later.left (record {
-            on = λ h at d. HoleInElements.later_element value_stands comma d;
-            same = λ at d. refl;
-          })) s.holes;
-        }
+              got = s.got ++ element_of v ∷ [];
+              join = λ es. s.join (this es);
+              seen = λ more. ap elements_view (append_assoc s.got (element_of v ∷ []) more) ∙ view' more;
+              high = λ es.
+                  omega (arith, ap (elements_level level) (view' []), s.high (this no_elements), s.high (this es));
+              told = rw later.left (told'
+                  ∙ after_from _ (found_from _ _ (sign_there comma))
+                  ∙ after_one _ _ _ (elements_of (gap (text_at bytes next))) (λ es. refl));
+              pushed = pushed';
+              lines = r.keeps.lines ∙ s.lines;
+              limit = limit';
+              boundary = later.boundary;
+              forward = omega (arith, s.forward, r.found.later, left.forward, sign.2, later.forward);
+              deep = then_deep (rw later.left (record {
+                leads = λ p d. later_element value_stands r.limit comma d;
+                backs = λ p d. within.past_element value_stands r.limit comma d;
+              })) s.deep;
+              holes = then_in (rw later.left (record {
+                on = λ h at d. HoleInElements.later_element value_stands comma d;
+                same = λ at d. refl;
+              })) s.holes;
+            }
 
         -- where no comma follows
         module _ (none : IsPunctuationEnd 44 bytes after' None) where

@@ -65,21 +65,21 @@ module _ {bytes : List ℕ} {start level at : ℕ} {old new : Gathered} (s : Fie
     fields_more {next = next} later sign =
         let comma : StartsWith 44 (after_blanks (text_at bytes end)) after' (text_at bytes next) =
         sym left.left ∙ sign.0 in record {
-      got = and_lines s.got r.added;
-      lines = lines_more s.lines r;
-      told = rw later.left (told' ∙ after_from _ (found_from _ _ (ap (char_at 44) rest' ∙ sign_there sign.0))
-          ∙ after_one _ _ _ (fields_on_of (after_blanks (text_at bytes next))) (λ rs. refl));
-      boundary = later.boundary;
-      forward = omega (arith, s.forward, r.later, left.forward, sign.2, later.forward);
-      deep = then_deep (rw later.left (record {
-        leads = λ p d. later_field (row_stands r) r.limit comma d;
-        backs = λ p d. within.past_field (row_stands r) r.limit comma d;
-      })) s.deep;
-      holes = then_in (rw later.left (record {
-        on = λ h at d. HoleInFieldsOn.later_row (row_stands r) comma d;
-        same = λ at d. refl;
-      })) s.holes;
-    }
+          got = and_lines s.got r.added;
+          lines = lines_more s.lines r;
+          told = rw later.left (told' ∙ after_from _ (found_from _ _ (ap (char_at 44) rest' ∙ sign_there sign.0))
+              ∙ after_one _ _ _ (fields_on_of (after_blanks (text_at bytes next))) (λ rs. refl));
+          boundary = later.boundary;
+          forward = omega (arith, s.forward, r.later, left.forward, sign.2, later.forward);
+          deep = then_deep (rw later.left (record {
+            leads = λ p d. later_field (row_stands r) r.limit comma d;
+            backs = λ p d. within.past_field (row_stands r) r.limit comma d;
+          })) s.deep;
+          holes = then_in (rw later.left (record {
+            on = λ h at d. HoleInFieldsOn.later_row (row_stands r) comma d;
+            same = λ at d. refl;
+          })) s.holes;
+        }
 
     -- where no comma follows
     module _ (none : IsPunctuationEnd 44 bytes after' None) where

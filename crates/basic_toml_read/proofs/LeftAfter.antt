@@ -170,7 +170,7 @@ gap_over (x ∷ text) next e gap =
 no_feed_there : (text : Text) → end_of text ≡ None → after_run (λ c. c == 10) text ≡ text
 no_feed_there [] e = cc
 no_feed_there (x ∷ text) e =
-    elim (cases_Bool (x.1 == 10)) [ | inl k ↦ (let there = rw k at e in cc) | inr k ↦ rw k refl ]
+    elim (cases_Bool (x.1 == 10)) [ inl k ↦ (let there = rw k at e in cc) | inr k ↦ rw k refl ]
 
 pub gap_ends_line : (text : Text) → end_of (line_of text) ≡ None → after_gap is_comment text ≡ [] → ⊥
 gap_ends_line text e gap =

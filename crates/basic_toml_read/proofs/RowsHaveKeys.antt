@@ -6,7 +6,7 @@ use Rattle.basic_toml_grammar.specs.Sections.{Key, Rows, no_rows, row}
 use Rattle.basic_toml_grammar.specs.Entering.{has_key, rows_keyed, keyed_within, value_keyed, elements_keyed}
 use Rattle.basic_toml_grammar.specs.Entering.{all_keyed_within}
 use Rattle.basic_toml_read.specs.declared.section.Raw.{Raw, map-Raw, roll-Raw, ind-Raw, the_lemmas}
-use Rattle.basic_toml_read.specs.declared.section.Raw.TheOpen.{Raw-F, Rows-F}
+use Rattle.basic_toml_read.specs.declared.section.Raw.TheOpen.{Raw-F}
 use Rattle.basic_toml_read.specs.declared.section.Element.{Element, out-Element}
 use Rattle.basic_toml_read.specs.declared.section.Key as keys
 use Rattle.basic_toml_read.specs.declared.section.Row.{Row, out-Row}
@@ -84,24 +84,12 @@ raw_kept : (x : Raw-F Raw Element Row tables.Rows) → Parts x → OfRaw (roll-R
 raw_kept (Raw-F.Array es) parts = search (rules, the_lemmas)
 raw_kept _ parts = search (rules, the_lemmas)
 
-rows_kept : (x : Rows-F Raw Element Row tables.Rows)
-    → keyed_within (rows_from (map key_of x.parents.items) (map lined_of x.rows.items)) ≡ true → OfRows (roll-Rows x)
-rows_kept x parts = search (rules, the_lemmas)
+abbrev Known : {A : Type 0} → (A → Type 0) → Type 0
+Known {A = A} P = (x : A) × P x
 
-abbrev Raw1 : Type 0
-Raw1 = (v : Raw) × OfRaw v
-
-abbrev Element1 : Type 0
-Element1 = (e : Element) × OfElement e
-
-abbrev Row1 : Type 0
-Row1 = (r : Row) × OfRow r
-
-abbrev Rows1 : Type 0
-Rows1 = (rs : tables.Rows) × OfRows rs
-
-parts_kept : (y : Raw-F Raw1 Element1 Row1 Rows1)
-    → Parts (map-Raw Raw1 Element1 Row1 Rows1 Raw Element Row tables.Rows (λ e. e.0) (λ e. e.0) (λ e. e.0) (λ e. e.0) y)
+parts_kept : (y : Raw-F (Known OfRaw) (Known OfElement) (Known OfRow) (Known OfRows))
+    → Parts (map-Raw (Known OfRaw) (Known OfElement) (Known OfRow) (Known OfRows) Raw Element Row tables.Rows
+    (λ e. e.0) (λ e. e.0) (λ e. e.0) (λ e. e.0) y)
 parts_kept (Raw-F.Array es) = elements_kept es.items
 parts_kept (Raw-F.Inline rs) = known_kept [] rs.items
 parts_kept (Raw-F.Dotted rs) = rs.value.1
@@ -112,9 +100,9 @@ every_raw =
     ind-Raw OfRaw OfElement OfRow OfRows (λ x y is. raw_kept x (subst Parts is (parts_kept y)))
     (λ x y is. let kept = subst (λ z. OfRaw z.value) is y.value.1 in search (rules, the_lemmas))
     (λ x y is. let kept = subst (λ z. OfRaw z.value) is y.value.1 in search (rules, the_lemmas))
-    (λ x y is. rows_kept x (subst
+    (λ x y is. let kept = subst
     (λ z. keyed_within (rows_from (map key_of z.parents.items) (map lined_of z.rows.items)) ≡ true) is
-    (known_kept (map key_of y.parents.items) y.rows.items)))
+    (known_kept (map key_of y.parents.items) y.rows.items) in search (rules, the_lemmas))
 
 pub every_row : (r : Row) → OfRow r
 every_row r = rw (lined_is r) (every_raw (out-Row r).value)

@@ -21,7 +21,8 @@ use Rattle.basic_toml_read.specs.declared.values.Gathered.{Gathered}
 use Rattle.basic_toml_read.specs.FrontOf.{rows_of, row_of}
 use Rattle.basic_toml_read.specs.AtPlace.{EndsAt, Leaves}
 use Rattle.basic_toml_read.specs.Gathers.{row_level, Lines, and_lines, lines_of, IsRowRead}
-use Rattle.basic_toml_read.specs.Lists.{AreRowsRead, EndsLineAt, EndsOrStops, IsGap, PassesGaps, ReadsRows}
+use Rattle.basic_toml_read.specs.Lists.{IsFrom, NextAt, AreRowsRead, EndsLineAt, EndsOrStops, IsGap, PassesGaps}
+use Rattle.basic_toml_read.specs.Lists.{ReadsRows}
 use Rattle.basic_toml_read.specs.StopsReached.{IfDeep, InHole, LeadsTo, in_row, in_rows}
 use Rattle.basic_toml_grammar.proofs.Grammar.StringsAreRead.{then_some}
 use Rattle.basic_toml_grammar.proofs.Grammar.ReaderIsSound.{line_end_read}
@@ -98,21 +99,25 @@ RowsAnswered bytes start level old new result = record {
 }
 
 module _ {bytes : List ℕ} {start level at : ℕ} {old new : Gathered} (s : RowsSoFar bytes start level at old new) where
-  -- the end of the text
-  pub rows_over : length bytes ≤ at → AreRowsRead bytes start level old new None
+  -- where they end
+  rows_to : (rest : Text) {next : Option ℕ} → rows_of (text_at bytes at) ≡ Some (no_rows, rest) → NextAt bytes rest next
+      → IsFrom start next → AreRowsRead bytes start level old new next
   unfolding after
-  rows_over h = record {
+  rows_to rest is ends from = record {
     added = s.got;
-    rest = [];
-    is = s.told ∙ after_from _ (ap rows_of (text_end bytes at h) ∙ rows_is_none)
-        ∙ ap (λ (rs : Rows). Some (rs, [])) (lines_alone s.lines);
+    rest = rest;
+    is = s.told ∙ after_from _ is ∙ ap (λ (rs : Rows). Some (rs, rest)) (lines_alone s.lines);
     pushed = s.lines.pushed;
     some = s.lines.some;
     elements = s.lines.elements;
     limit = s.lines.limit;
-    ends = refl;
-    from = tt;
+    ends = ends;
+    from = from;
   }
+
+  -- at the end of the text
+  pub rows_over : length bytes ≤ at → AreRowsRead bytes start level old new None
+  rows_over h = rows_to [] (ap rows_of (text_end bytes at h) ∙ rows_is_none) refl tt
 
   -- a line
   module _ {front : ℕ} (l : IsLine bytes at front) where
@@ -128,26 +133,10 @@ module _ {bytes : List ℕ} {start level at : ℕ} {old new : Gathered} (s : Row
     -- a header
     pub rows_bracket : (next : ℕ) → IsPunctuationEnd 91 bytes front (Some next)
         → AreRowsRead bytes start level old new (Some front)
-    unfolding after
-    rows_bracket next sign = record {
-      added = s.got;
-      rest = l.first ∷ l.line;
-      is = s.told ∙ after_from _ (by_line (Some (front, text_at bytes next)) (sign_there sign.0))
-          ∙ ap (λ (rs : Rows). Some (rs, l.first ∷ l.line)) (lines_alone s.lines);
-      pushed = s.lines.pushed;
-      some = s.lines.some;
-      elements = s.lines.elements;
-      limit = s.lines.limit;
-      ends = (
-        l.first,
-        l.line,
-        refl,
-        sym here,
-        l.blanks.boundary,
-        λ none. let z : None ≡ Some (front, text_at bytes next) = sym none ∙ sign_there sign.0 in cc,
-      );
-      from = omega (arith, s.forward, l.blanks.forward);
-    }
+    rows_bracket next sign =
+        rows_to (l.first ∷ l.line) (by_line (Some (front, text_at bytes next)) (sign_there sign.0))
+        (l.first, l.line, refl, sym here, l.blanks.boundary, λ none. cc (none, sign_there sign.0))
+        (omega (arith, s.forward, l.blanks.forward))
 
     -- a header is no gap
     pub bracket_no_gap : (next : ℕ) → IsPunctuationEnd 91 bytes front (Some next) → IsGap (text_at bytes start) → ⊥

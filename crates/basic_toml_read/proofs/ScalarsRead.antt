@@ -74,7 +74,7 @@ bare_key bytes at end key r some e =
 no_bare_key : (text : Text) → run is_keylike text ≡ [] → bare_key_at text ≡ None
 no_bare_key [] e = refl
 no_bare_key (x ∷ text) e =
-    elim (cases_Bool (is_keylike x.1)) [ | inl h ↦ (let there = rw h at e in cc) | inr h ↦ rw h refl ]
+    elim (cases_Bool (is_keylike x.1)) [ inl h ↦ (let there = rw h at e in cc) | inr h ↦ rw h refl ]
 
 pub key_by_string : (text : Text) (o : Option reader.Quoted) → run is_keylike text ≡ [] → string_at text ≡ o
     → key_at text ≡ and_then o quoted_key

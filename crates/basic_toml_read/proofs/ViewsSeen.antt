@@ -6,30 +6,16 @@ use Rattle.std.proofs.lemmas.List.{map-append, length-map}
 use Rattle.basic_toml_grammar.specs.Sections as spec
 use Rattle.basic_toml_read.specs.declared.key_text.KeyText.{KeyText}
 use Rattle.basic_toml_read.specs.declared.section.Raw.{Raw, the_lemmas, Array}
-use Rattle.basic_toml_read.specs.declared.section.Element.{Element, out-Element, roll-Element}
+use Rattle.basic_toml_read.specs.declared.section.Element.{Element, out-Element}
 use Rattle.basic_toml_read.specs.declared.section.Row.{roll-Row}
 use Rattle.basic_toml_read.specs.declared.section.Key as code_keys
+use Rattle.basic_toml_read.proofs.NextRow.{lined_is}
 use Rattle.basic_toml_read.specs.KeyText.{key_text_bytes}
-use Rattle.basic_toml_read.specs.SectionView.{key_of, raw_of, placed_of, lined_of, elements_view}
+use Rattle.basic_toml_read.specs.SectionView.{key_of, raw_of, placed_of, elements_view}
 use Rattle.basic_toml_read.specs.Gathers.{Lines, no_lines, and_lines, lines_view}
 
 pub array_of : (v : Vec Element Global) → raw_of (Array v) ≡ spec.Raw.array (elements_view v.items)
 array_of v = search (rules, the_lemmas)
-
-pub row_seen : (key : KeyText) (offset n start : ℕ) (value : Raw)
-    → lined_of (roll-Row (record { key = key; offset = offset; parents = n; start = start; value = value }))
-    ≡ record {
-      key = record { offset = offset; text = key_text_bytes key };
-      parents = n;
-      start = start;
-      value = raw_of value;
-    }
-row_seen key offset n start value = search (rules, the_lemmas)
-
-pub element_seen : (offset end : ℕ) (value : Raw)
-    → placed_of (roll-Element (record { offset = offset; end = end; value = value }))
-    ≡ record { offset = offset; value = raw_of value }
-element_seen offset end value = search (rules, the_lemmas)
 
 pub placed_is : (e : Element)
     → placed_of e ≡ record { offset = (out-Element e).offset; value = raw_of (out-Element e).value }
@@ -56,7 +42,7 @@ pub row_before : (key : KeyText) (offset n start : ℕ) (value : Raw) (v : spec.
     ≡ spec.row (map key_of parents ++ record { offset = offset; text = key_text_bytes key } ∷ []) start v
     (lines_view rest)
 row_before key offset n start value v parents rest e count =
-    rw (row_seen key offset n start value, map-append key_of parents rest.parents, taken, dropped, e) refl
+    rw (lined_is, map-append key_of parents rest.parents, taken, dropped, e) refl
   where
     counted : n ≡ length (map key_of parents)
     counted = count ∙ sym (length-map parents key_of)

@@ -42,9 +42,9 @@ pub run_small : (f : ℕ → Bool) → ((c : ℕ) → f c ≡ true → c < 128) 
     → get_or (run f text) i 0 < 128
 run_small f small [] i = omega arith
 run_small f small (x ∷ text) zero =
-    elim (cases_Bool (f x.1)) [ | inl e ↦ rw e (small x.1 e) | inr e ↦ rw e (omega arith) ]
+    elim (cases_Bool (f x.1)) [ inl e ↦ rw e (small x.1 e) | inr e ↦ rw e (omega arith) ]
 run_small f small (x ∷ text) (suc i) =
-    elim (cases_Bool (f x.1)) [ | inl e ↦ rw e (run_small f small text i) | inr e ↦ rw e (omega arith) ]
+    elim (cases_Bool (f x.1)) [ inl e ↦ rw e (run_small f small text i) | inr e ↦ rw e (omega arith) ]
 
 -- the bytes of a word
 pub word_text : (bytes : List ℕ) (start end : ℕ) → IsUtf8 bytes → IsCharBoundary bytes start
