@@ -233,10 +233,6 @@ row_is text =
     (omega arith))))
     ∙ then_from _ (keys_enough (suc n) (suc (length text)) text (omega arith) (omega arith)))
 
-pub rows_is_none : rows_of [] ≡ Some (no_rows, [])
-unfolding rows_of
-rows_is_none = refl
-
 pub rows_is : (x : ℕ × ℕ) (text : Text)
     → rows_of (x ∷ text) ≡ if_found (char_at 91 (after_blanks (x ∷ text))) (λ s. Some (no_rows, x ∷ text))
     (if_found (line_end_at (x ∷ text)) (λ next. rows_of next)
@@ -272,10 +268,6 @@ header_is text =
     (omega (arith, sign_shorter 91 text s e, sign_shorter 91 s.1 t f, blanks_length t.1)) (omega arith)))
     (λ _. then_from _ (keys_enough n (suc (length (after_blanks s.1))) (after_blanks s.1)
     (omega (arith, sign_shorter 91 text s e, blanks_length s.1)) (omega arith))))
-
-pub sections_is_none : sections_of [] ≡ Some []
-unfolding sections_of
-sections_is_none = refl
 
 pub sections_is : (x : ℕ × ℕ) (text : Text)
     → sections_of (x ∷ text) ≡ sections_by header_of rows_of sections_of (x ∷ text)

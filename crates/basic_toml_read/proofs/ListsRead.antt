@@ -32,7 +32,7 @@ use Rattle.basic_toml_grammar.proofs.Grammar.ReaderIsSound.{rows_read, header_re
 use Rattle.basic_toml_read.proofs.StandsIn.{stops_on, at_deep, then_in, newline_stop}
 use Rattle.basic_toml_read.proofs.RowsRead.{RowsAnswered}
 use Rattle.basic_toml_read.proofs.NothingTooDeep.{root_rows, after_header, its_rows}
-use Rattle.basic_toml_read.proofs.EnoughSteps.{list_is, sections_is, sections_is_none}
+use Rattle.basic_toml_read.proofs.EnoughSteps.{list_is, sections_is}
 use Rattle.basic_toml_read.proofs.GoesOn.{misses_none, misses_on, then_from}
 
 root_onto : (rs : Rows) (headed : List Section) → with_root rs headed ≡ with_root rs [] ++ headed
@@ -302,9 +302,8 @@ falls bytes at (Some p) rest h f n =
 
 -- the end of the text
 pub list_over : (bytes : List ℕ) (list : List Section) → ListSoFar bytes None list → IsList bytes list
-unfolding onto
+unfolding onto sections_of
 list_over bytes list s = record {
-  is = s.told ∙ ap (λ t. onto list (sections_of t)) s.ends ∙ ap (onto list) sections_is_none
-      ∙ ap (λ (l : List Section). Some l) (append-nil list);
+  is = s.told ∙ ap (λ t. onto list (sections_of t)) s.ends ∙ ap (λ (l : List Section). Some l) (append-nil list);
   limit = s.limit;
 }

@@ -28,7 +28,7 @@ use Rattle.basic_toml_grammar.proofs.Grammar.StringsAreRead.{then_some}
 use Rattle.basic_toml_grammar.proofs.Grammar.ReaderIsSound.{line_end_read}
 use Rattle.basic_toml_grammar.proofs.Nesting.WithinTheLimit as within
 use Rattle.basic_toml_read.proofs.NothingTooDeep.{line_row}
-use Rattle.basic_toml_read.proofs.EnoughSteps.{after_row, keys_is, row_is, rows_is, rows_is_none}
+use Rattle.basic_toml_read.proofs.EnoughSteps.{after_row, keys_is, row_is, rows_is}
 use Rattle.basic_toml_read.proofs.LeftAfter.{sign_there, sign_missing, gap_past_line, gap_over, gap_ends_line}
 use Rattle.basic_toml_read.proofs.LeftAfter.{gap_has_no_bracket, line_of}
 use Rattle.basic_toml_read.proofs.GoesOn.{after, after_from, after_one, found_from, misses_after, misses_none}
@@ -117,7 +117,8 @@ module _ {bytes : List ℕ} {start level at : ℕ} {old new : Gathered} (s : Row
 
   -- at the end of the text
   pub rows_over : length bytes ≤ at → AreRowsRead bytes start level old new None
-  rows_over h = rows_to [] (ap rows_of (text_end bytes at h) ∙ rows_is_none) refl tt
+  unfolding rows_of
+  rows_over h = rows_to [] (rw (text_end bytes at h) refl) refl tt
 
   -- a line
   module _ {front : ℕ} (l : IsLine bytes at front) where

@@ -1,4 +1,4 @@
-use Rattle.std.proofs.Common.{◌≡◌, ◌≤◌, ℕ, List, Option, Some, None, ap, sym, ◌∙◌, arith}
+use Rattle.std.proofs.Common.{◌≡◌, refl, ◌≤◌, ℕ, List, Option, Some, None, ap, sym, ◌∙◌, arith}
 use Rattle.std.specs.Option.{unwrap_or}
 use Rattle.basic_toml_tokens.specs.Text.{text_at, after_run, is_keylike}
 use Rattle.basic_toml_tokens.proofs.SpacesAreRuns.{after_twice}
@@ -9,41 +9,32 @@ use Rattle.basic_toml_read.proofs.front.end_of_word.Goals.{then-at-from, else-at
 use Rattle.basic_toml_read.proofs.front.end_of_word.Goals as goal
 
 -- behind a period or a plus that stands first, or where it stands
-record IsStart (bytes : List ℕ) (from start : ℕ) : Type 0 where
-  pub rest : after_run is_wordlike (text_at bytes start) ≡ after_run is_wordlike (text_at bytes from)
-  pub forward : from ≤ start
-
-same_start : (bytes : List ℕ) (from start : ℕ) → start ≡ from → IsStart bytes from start
-same_start bytes from start same =
-    record { rest = ap (λ i. after_run is_wordlike (text_at bytes i)) same; forward = omega (arith, same) }
-
-start_is : (bytes : List ℕ) (from start : ℕ) (joint : Option ℕ) → IsJoint bytes from joint
-    → start ≡ unwrap_or joint from → IsStart bytes from start
-start_is bytes from start None is same = same_start bytes from start same
-start_is bytes from start (Some next) is same = record {
-  rest = ap (λ i. after_run is_wordlike (text_at bytes i)) same ∙ sym is.0;
-  forward = omega (arith, is.2, same);
-}
+start_is : (bytes : List ℕ) (from : ℕ) (joint : Option ℕ) → IsJoint bytes from joint
+    → (after_run is_wordlike (text_at bytes (unwrap_or joint from)) ≡ after_run is_wordlike (text_at bytes from))
+    × (from ≤ unwrap_or joint from)
+start_is bytes from None is = (refl, omega arith)
+start_is bytes from (Some next) is = (sym is.0, omega (arith, is.2))
 
 pub loop-next-init : goal.loop-next-init
 loop-next-init c =
     let text = c.args.text.now in
     let run = c.end_of_run-end.ensures.run in
-    let start : IsStart text c.args.from c.if-at-from.start =
+    let from = c.args.from in
+    let at = c.if-at-from.start in
+    let start : (after_run is_wordlike (text_at text at) ≡ after_run is_wordlike (text_at text from)) × (from ≤ at) =
     elim c.if-at-from.branch [
-      | then-at-from w ↦
-          start_is text c.args.from c.if-at-from.start w.after_joint.result w.after_joint.ensures
-          (w.start-is ∙ w.unwrap_or-start.ensures)
-      | else-at-from w ↦ same_start text c.args.from c.if-at-from.start w.start-is
+      | then-at-from w ↦ rw (w.start-is ∙ w.unwrap_or-start.ensures)
+          (start_is text from w.after_joint.result w.after_joint.ensures)
+      | else-at-from w ↦ rw w.start-is (refl, omega arith)
     ] in
     record {
       rest =
-          ap (after_run is_wordlike) run.rest ∙ run_within (text_at text c.if-at-from.start) ∙ start.rest ∙
+          ap (after_run is_wordlike) run.rest ∙ run_within (text_at text c.if-at-from.start) ∙ start.0 ∙
           c.requires.same_rest;
       word = ap (after_run is_keylike) run.rest ∙ after_twice is_keylike (text_at text c.if-at-from.start) ∙
           sym run.rest;
       boundary = run.boundary;
-      forward = omega (arith, run.forward, start.forward, c.requires.forward);
+      forward = omega (arith, run.forward, start.1, c.requires.forward);
     }
 
 pub loop-next-preserved : goal.loop-next-preserved

@@ -29,8 +29,7 @@ returns-in_err-inner c =
 pub returns-in_err-after-in-None : goal.returns-in_err-after-in-None
 returns-in_err-after-in-None c =
     let b = one (goal.at.returns-in_err-after-in-None c).After-after_blanks in
-    rw (is_err c.from_residual-in_err-after-in-None.ensures.1)
-    (no_header_keys b c.in_err-after-in-None.field-0.0 c.in_err-after-in-None.ensures)
+    rw (is_err c.from_residual-in_err-after-in-None.ensures.1) (no_header_keys b _ c.in_err-after-in-None.ensures)
 
 pub returns-in_err-end-in-None : goal.returns-in_err-end-in-None
 returns-in_err-end-in-None c =
@@ -51,8 +50,7 @@ returns-in_ok-end-in-None-clause-read c =
 pub returns-in_err-after-in-Some : goal.returns-in_err-after-in-Some
 returns-in_err-after-in-Some c =
     let b = two (goal.at.returns-in_err-after-in-Some c).After-after_blanks-in-Some in
-    rw (is_err c.from_residual-in_err-after-in-Some.ensures.1)
-    (no_header_keys b c.in_err-after-in-Some.field-0.0 c.in_err-after-in-Some.ensures)
+    rw (is_err c.from_residual-in_err-after-in-Some.ensures.1) (no_header_keys b _ c.in_err-after-in-Some.ensures)
 
 pub returns-in_err-last-in-Some : goal.returns-in_err-last-in-Some
 returns-in_err-last-in-Some c =

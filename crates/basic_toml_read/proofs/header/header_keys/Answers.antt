@@ -48,14 +48,13 @@ returns-in-None-clause-read c =
 
 pub returns-in_err-keyed : goal.returns-in_err-keyed
 returns-in_err-keyed c =
-    let stop = c.in_err-keyed.field-0.0 in
     let e = c.in_err-keyed.ensures in
     rw (is_err c.from_residual-in_err-keyed.ensures.1)
-    (header_keys_stop c.args.text.now c.args.at stop (no_key c.loop-keyed.invariant stop e.read e.inside))
+    (header_keys_stop c.args.text.now c.args.at _ (no_key c.loop-keyed.invariant _ e.read e.inside))
 
 pub returns-in_err-raise : goal.returns-in_err-raise
 returns-in_err-raise c =
     let e = c.in_err-raise.ensures in
     rw (is_err c.from_residual-in_err-raise.ensures.1 ∙ ap (λ s. Err s) e.1)
-    (header_keys_stop c.args.text.now c.args.at (record { at = c.loop-keyed.offset; why = Deep })
+    (header_keys_stop c.args.text.now c.args.at _
     (key_too_deep c.loop-keyed.invariant c.in_ok-keyed.keyed c.in_ok-keyed.ensures.read e.0))

@@ -10,9 +10,8 @@ use Rattle.basic_toml_read.proofs.reader.SectionReader.first.Goals as goal
 
 pub returns-in_err-bracket : goal.returns-in_err-bracket
 returns-in_err-bracket c =
-    let stop = c.in_err-bracket.field-0.0 in
-    rw (is_err c.from_residual.ensures.1) (stops_on stop refl (λ list so_far.
-    root_stops c.args.self.now.text.now c.start.ensures.offset c.args.self.now.gathered c.rows.new.self stop
+    rw (is_err c.from_residual.ensures.1) (stops_on _ refl (λ list so_far.
+    root_stops c.args.self.now.text.now c.start.ensures.offset c.args.self.now.gathered c.rows.new.self _
     c.in_err-bracket.ensures))
 
 -- there are no rows before the first header

@@ -21,10 +21,9 @@ returns-in_default c = record {
 pub returns-in_err-header : goal.returns-in_err-header
 returns-in_err-header c =
     let at = c.in-Some.at in
-    let stop = c.in_err-header.field-0.0 in
-    rw (is_err c.from_residual.ensures.1) (stops_on stop refl (λ list so_far.
+    rw (is_err c.from_residual.ensures.1) (stops_on _ refl (λ list so_far.
     list_stops c.args.self.now.text.now at list (rw (c.requires.behind ∙ ap (λ o. Behind o) c.in-Some.is) at so_far)
-    stop c.in_err-header.ensures))
+    _ c.in_err-header.ensures))
 
 pub returns : goal.returns
 unfolding left_to_read

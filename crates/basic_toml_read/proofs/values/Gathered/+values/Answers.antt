@@ -69,10 +69,9 @@ pub elements-returns-in_err-valued : goal.elements-returns-in_err-valued
 elements-returns-in_err-valued t c =
     let i = c.loop-end.invariant in
     let bytes = c.args.text.now in
-    let stop = c.in_err-valued.field-0.0 in
     let e = c.in_err-valued.ensures in
-    rw (is_err c.from_residual.ensures.1) (stop_in_whole _ _ _ _ stop e
-    (elements_missing i c.in_default.ensures stop.why e.read) (λ p d. i.deep.leads p (this_element d))
+    rw (is_err c.from_residual.ensures.1) (stop_in_whole _ _ _ _ _ e
+    (elements_missing i c.in_default.ensures _ e.read) (λ p d. i.deep.leads p (this_element d))
     (λ none p d. its_value none (i.deep.backs p d)) (then_in (record {
       on = λ h at d. HoleInElements.in_element (sign_missing 93 (text_at bytes c.loop-end.at) c.in_default.ensures) d;
       same = λ at d. refl;
@@ -123,9 +122,8 @@ fields-returns-in-Some-clause-read t c = record {
 pub fields-returns-in_err-row : goal.fields-returns-in_err-row
 fields-returns-in_err-row t c =
     let i = c.loop-after.invariant in
-    let stop = c.in_err-row.field-0.0 in
     let e = c.in_err-row.ensures in
-    rw (is_err c.from_residual.ensures.1) (stop_in_whole _ _ _ _ stop e (fields_missing i stop.why e.read)
+    rw (is_err c.from_residual.ensures.1) (stop_in_whole _ _ _ _ _ e (fields_missing i _ e.read)
     (λ p d. i.deep.leads p (this_field d)) (λ none p d. its_row none (i.deep.backs p d))
     (then_in (record { on = λ h at d. HoleInFieldsOn.in_row d; same = λ at d. refl }) i.holes))
 
@@ -158,8 +156,8 @@ row-returns-in_default t c = no_equals c.in_ok-last.ensures.read c.in_default.en
 pub row-returns-in_err-valued : goal.row-returns-in_err-valued
 row-returns-in_err-valued t c =
     rw (is_err c.from_residual-in_err-valued.ensures.1)
-    (value_stop c.in_ok-last.ensures.read c.after_blanks.ensures c.in-Some.ensures c.in_err-valued.field-0.0
-    (hole_behind c.args.end) c.in_err-valued.ensures)
+    (value_stop c.in_ok-last.ensures.read c.after_blanks.ensures c.in-Some.ensures _ (hole_behind c.args.end)
+    c.in_err-valued.ensures)
 
 pub row-returns-clause-read : goal.row-returns-clause-read
 row-returns-clause-read t c =
@@ -209,9 +207,7 @@ array-returns-in_err-raise t c =
 pub array-returns-in_err-end : goal.array-returns-in_err-end
 array-returns-in_err-end t c =
     let left = c.after_gap.ensures in
-    let stop = c.in_err-end.field-0.0 in
-    let e = c.in_err-end.ensures in
-    rw (is_err c.from_residual-in_err-end.ensures.1) (stop_in_whole _ _ _ _ stop e (search rules)
+    rw (is_err c.from_residual-in_err-end.ensures.1) (stop_in_whole _ _ _ _ _ c.in_err-end.ensures (search rules)
     (λ p d. elements c.in_ok-raise.ensures (rw left.left at d))
     (λ none p d. rw left.left (within.in_array c.in_ok-raise.ensures d)) (moved_in in_elements left.left))
 
@@ -248,9 +244,7 @@ inline-returns-in_err-raise t c =
 pub inline-returns-in_err-end : goal.inline-returns-in_err-end
 inline-returns-in_err-end t c =
     let left = c.after_blanks.ensures in
-    let stop = c.in_err-end.field-0.0 in
-    let e = c.in_err-end.ensures in
-    rw (is_err c.from_residual-in_err-end.ensures.1) (stop_in_whole _ _ _ _ stop e (search rules)
+    rw (is_err c.from_residual-in_err-end.ensures.1) (stop_in_whole _ _ _ _ _ c.in_err-end.ensures (search rules)
     (λ p d. fields c.in_ok-raise.ensures (rw left.left at d))
     (λ none p d. rw left.left (within.in_inline c.in_ok-raise.ensures d)) (moved_in in_fields left.left))
 

@@ -56,9 +56,8 @@ returns-in-None-clause-read c =
 
 pub returns-in_err-keyed : goal.returns-in_err-keyed
 returns-in_err-keyed c =
-    let stop = c.in_err-keyed.field-0.0 in
     let e = c.in_err-keyed.ensures in
-    rw (is_err c.from_residual.ensures.1) (no_key c.loop-keyed.invariant.keys stop e.read e.inside)
+    rw (is_err c.from_residual.ensures.1) (no_key c.loop-keyed.invariant.keys _ e.read e.inside)
 
 pub returns-in_err-raise : goal.returns-in_err-raise
 returns-in_err-raise c =

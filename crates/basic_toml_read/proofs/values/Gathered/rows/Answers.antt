@@ -108,17 +108,16 @@ returns-in_err-end-in-None c =
     let l = no_header p.Else-is_some in
     rw (is_err c.from_residual-in_err-end-in-None.ensures.1)
     (row_stops c.loop-at.invariant l.line l.none (same_end p.Else-is_some-2 ∙ c.in-None.ensures) c.row.new.self
-    (no_hash p.Else-is_some-2) c.in_err-end-in-None.field-0.0 c.in_err-end-in-None.ensures)
+    (no_hash p.Else-is_some-2) _ c.in_err-end-in-None.ensures)
 
 pub returns-in_err-at-in-None : goal.returns-in_err-at-in-None
 returns-in_err-at-in-None c =
     let p = goal.at.returns-in_err-at-in-None c in
     let l = no_header p.Else-is_some in
-    let stop = c.in_err-at-in-None.field-0.0 in
     let e = c.in_err-at-in-None.ensures in
     rw (is_err c.from_residual-in_err-at-in-None.ensures.1)
     (unended_stops c.loop-at.invariant l.line l.none (same_end p.Else-is_some-2 ∙ c.in-None.ensures)
-    c.in_ok-end-in-None.ensures.read stop e.read e.inside)
+    c.in_ok-end-in-None.ensures.read _ e.read e.inside)
 
 pub returns-clause-read : goal.returns-clause-read
 returns-clause-read c = rows_over c.loop-at.invariant (omega (arith, c.loop-at-test.false))

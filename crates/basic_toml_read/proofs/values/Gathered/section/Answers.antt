@@ -27,9 +27,8 @@ returns-in_err-header c =
 -- a line that goes on after it
 pub returns-in_err-line : goal.returns-in_err-line
 returns-in_err-line c =
-    let stop = c.in_err-line.field-0.0 in
     let e = c.in_err-line.ensures in
-    rw (is_err c.from_residual-in_err-line.ensures.1) (line_stops c.in_ok-header.ensures.read stop e.read e.inside)
+    rw (is_err c.from_residual-in_err-line.ensures.1) (line_stops c.in_ok-header.ensures.read _ e.read e.inside)
 
 -- the rows
 pub returns-in_err-next : goal.returns-in_err-next
@@ -38,7 +37,7 @@ returns-in_err-next c =
     omega (arith, c.len.ensures, c.header_at.new.keys.ok.0) in
     rw (is_err c.from_residual-in_err-next.ensures.1)
     (rows_stop c.in_ok-header.ensures.read c.in_ok-line.line c.in_ok-line.ensures.read c.args.self.now
-    c.rows.new.self c.in_err-next.field-0.0 (rw counted at c.in_err-next.ensures))
+    c.rows.new.self _ (rw counted at c.in_err-next.ensures))
 
 pub returns-clause-read : goal.returns-clause-read
 returns-clause-read c =
