@@ -42,7 +42,7 @@ unfolding keys_of
 keys_there text r e = keys_read (suc (length text)) text r e
 
 -- a row by its keys and its value
-assigned : List Key → reader.Valued → reader.Assigned
+abbrev pub assigned : List Key → reader.Valued → reader.Assigned
 assigned keys v = record { keys = keys; offset = v.offset; value = v.value; rest = v.rest }
 
 -- one without keys
@@ -92,7 +92,6 @@ module _ {bytes : List ℕ} {at level : ℕ} {old new : Gathered} {last : LastKe
 
   row_by : (o : Option (ℕ × Text)) → char_at 61 (text_at bytes last.end) ≡ o → row_of (text_at bytes at)
       ≡ and_then o (λ s. and_then (value_of (after_blanks s.1)) (λ v. Some (assigned all_keys v)))
-  unfolding assigned
   row_by o e = row_is (text_at bytes at) ∙ then_from _ k.is ∙ then_from _ (ap (char_at 61) (sym k.after) ∙ e)
 
   -- no equals sign
@@ -125,7 +124,6 @@ module _ {bytes : List ℕ} {at level : ℕ} {old new : Gathered} {last : LastKe
         (DeepValue nesting_limit last.level (text_at bytes start)) (in_value (text_at bytes start) end) stop
         → StopIn bytes (row_of (text_at bytes at)) (λ r. nesting_limit < row_level level r)
         (DeepRow nesting_limit level (text_at bytes at)) (in_row (text_at bytes at) end) stop
-    unfolding assigned
     value_stop stop end e =
         let equals = sym k.after ∙ sign.0 in
         let on : LeadsTo (in_value (text_at bytes start) end) (in_row (text_at bytes at) end) =
@@ -141,7 +139,6 @@ module _ {bytes : List ℕ} {at level : ℕ} {old new : Gathered} {last : LastKe
     pub row_there : {new' : Gathered} {v : Valued} → IsValueRead bytes start last.level new new' v
         → (rows : Vec Row Global) → rows.items ≡ new'.rows.items ++ row_of_value last (last.level - level) v ∷ []
         → IsRowRead bytes at level old (with_rows new' rows) v.end
-    unfolding assigned
     row_there {v = v} r rows pushed =
         let n = last.level - level in
         let made = row_of_value last n v in

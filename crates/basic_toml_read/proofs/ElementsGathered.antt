@@ -86,17 +86,15 @@ module _ {bytes : List ℕ} {start level at : ℕ} {old new : Gathered} (s : Ele
         unfolding value_of
         value_stands = value_read (4 * length (text_at bytes at) + 1) (text_at bytes at) _ r.found.is
 
-        this : Elements → Elements
+        abbrev pub this : Elements → Elements
         this es = element v.offset r.found.raw es
 
         view' : (more : List Element)
             → elements_view (s.got ++ (element_of v ∷ more)) ≡ s.join (this (elements_view more))
-        unfolding this
         view' more =
             s.seen (element_of v ∷ more) ∙ ap s.join (rw (placed_is (element_of v), r.found.seen) refl)
 
         limit' : elements_level level (elements_view (s.got ++ element_of v ∷ [])) ≤ nesting_limit
-        unfolding this
         limit' = omega (arith, ap (elements_level level) (view' []), s.high (this no_elements), s.limit, r.limit)
 
         pushed' : elements.items ≡ old.elements.items ++ (s.got ++ element_of v ∷ [])
@@ -111,7 +109,6 @@ module _ {bytes : List ℕ} {start level at : ℕ} {old new : Gathered} (s : Ele
         pub elements_more : {next at' : ℕ} → Leaves bytes next at' (gap (text_at bytes next))
             → IsPunctuationEnd 44 bytes after' (Some next)
             → ElementsSoFar bytes start level at' old (with_elements mid elements)
-        unfolding this
         elements_more {next = next} later sign =
             let comma : StartsWith 44 (gap (text_at bytes v.end)) after' (text_at bytes next) =
             sym left.left ∙ sign.0 in record {
@@ -145,7 +142,6 @@ module _ {bytes : List ℕ} {start level at : ℕ} {old new : Gathered} (s : Ele
 
           last_on : elements_of (text_at bytes start)
               ≡ after s.join (and_then (char_at 93 (text_at bytes after')) (λ s. Some (this no_elements, s.1)))
-          unfolding this
           last_on = told' ∙ after_from _
               (found_from _ _ no_comma ∙ then_from _ (ap (char_at 93) (sym left.left)))
 

@@ -2,7 +2,6 @@
 use Rattle.std.proofs.Common.{inr, Err, ◌≡◌, ℕ, ◌<◌, Bool, true, false, List, refl, ◌∙◌, arith, Option, Some, None, Ok}
 use Rattle.std.proofs.Common.{◌+◌, length, map, ap, sym, eqb-true}
 use Rattle.std.proofs.lemmas.List.{length-map}
-use Rattle.std.specs.Str.{IsCharBoundary}
 use Rattle.basic_toml_value.specs.Nesting.{nesting_limit}
 use Rattle.basic_toml_tokens.specs.Text.{Text, StartsWith, after_blanks, text_at}
 use Rattle.basic_toml_tokens.specs.Punctuation.{IsPunctuationEnd}
@@ -17,7 +16,7 @@ use Rattle.basic_toml_explain.specs.Stop.{StopsInside}
 use Rattle.basic_toml_explain.specs.declared.stop.Stop.{Stop}
 use Rattle.basic_toml_explain.specs.declared.stop.Why.TheVariants.{Newline}
 use Rattle.basic_toml_explain.specs.declared.stop.Why.TheVariants as why
-use Rattle.basic_toml_read.specs.Lists.{HeaderKeys, AreHeaderKeys, IsHeaderRead}
+use Rattle.basic_toml_read.specs.Lists.{HeaderKeys, AreHeaderKeys}
 use Rattle.basic_toml_read.specs.StopsReached.{AtDeep, InHeaderHole, StopsAtKey, in_header}
 use Rattle.basic_toml_read.specs.AtPlace.{Leaves}
 use Rattle.basic_toml_read.specs.FrontOf.{keys_of, header_of}
@@ -182,7 +181,7 @@ module _ {bytes : List ℕ} {at start : ℕ} {is_array : Bool} (b : Opened bytes
       pub half_closed : is_array ≡ true → char_at 93 (text_at bytes close) ≡ None
           → HeaderStops bytes at (record { at = close; why = why.Bracket })
       half_closed array none = record {
-        read = by_bracket ∙ half_ended is_array array;
+        read = by_bracket ∙ rw array (then_from _ none);
         inside = inr closes.1;
         deep = header_within;
         hole = λ some. record {
@@ -195,21 +194,3 @@ module _ {bytes : List ℕ} {at start : ℕ} {is_array : Bool} (b : Opened bytes
           };
         };
       }
-        where
-          half_ended : (a : Bool) → a ≡ true → ending at a (map key_of found.keys) (text_at bytes close) ≡ None
-          half_ended true e = then_from _ none
-          half_ended false e = cc
-
-    pub closed : (end : ℕ) → header_of (text_at bytes at) ≡ Some (record {
-      offset = at;
-      keys = map key_of found.keys;
-      is_array = is_array;
-      rest = text_at bytes end;
-    }) → IsCharBoundary bytes end → found.end < end
-        → IsHeaderRead bytes at (record { at = at; is_array = is_array; keys = found.keys; end = end })
-    closed end is boundary more = record {
-      is = is;
-      limit = k.limit;
-      boundary = boundary;
-      later = omega (arith, b.later, k.later, more);
-    }

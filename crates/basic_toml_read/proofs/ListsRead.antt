@@ -130,7 +130,7 @@ module _ (bytes : List ℕ) {start : ℕ} (start_is : start ≡ start_of bytes) 
 pub bracket_stands : (bytes : List ℕ) (rest : Text) (next : Option ℕ) → NextAt bytes rest next
     → IfSome next (λ at. IsCharBoundary bytes at)
 bracket_stands bytes rest None e = tt
-bracket_stands bytes rest (Some at) e = let (x, line, is, here, b, some) = e in b
+bracket_stands bytes rest (Some at) e = e.4
 
 -- what is known of a stop in a section
 abbrev pub SectionStops : List ℕ → ℕ → Stop → Type 0
@@ -149,27 +149,24 @@ unfolding header_of
 header_there text h e = header_read (suc (length text)) text h e
 
 module _ {bytes : List ℕ} {at : ℕ} {h : Header} (read : IsHeaderRead bytes at h) where
-  keys_here : List Key
+  abbrev pub keys_here : List Key
   keys_here = map key_of h.keys
 
-  made : Rows → Section
+  abbrev pub made : Rows → Section
   made rs = record { at = h.at; header = keys_here; is_array = h.is_array; rows = rs }
 
   by_line : and_then (header_of (text_at bytes at)) sections_from
       ≡ and_then (line_end_at (text_at bytes h.end))
       (λ next. and_then (rows_of next)
       (λ rows. and_then (sections_of rows.1) (λ sections. Some (made rows.0 ∷ sections))))
-  unfolding made keys_here
   by_line = ap (λ o. and_then o sections_from) read.is
 
   -- the header, at the front of its line
   header_is : (text : Text) → text_at bytes at ≡ after_blanks text
       → IsHeader (after_blanks text) h.at keys_here h.is_array (text_at bytes h.end)
-  unfolding keys_here
   header_is text same = rw (← same) (header_there (text_at bytes at) _ read.is)
 
   keys_low : length keys_here + 1 ≤ nesting_limit
-  unfolding keys_here
   keys_low = omega (arith, read.limit, length-map h.keys key_of)
 
   -- a line that goes on after it
@@ -190,20 +187,14 @@ module _ {bytes : List ℕ} {at : ℕ} {h : Header} (read : IsHeaderRead bytes a
     by_rows = by_line ∙ then_from _ ended.0
 
     level_here : length keys_here ≡ length h.keys
-    unfolding keys_here
     level_here = length-map h.keys key_of
 
     over : EndsLine is_comment (text_at bytes h.end) (text_at bytes line)
     over = line_end_read (text_at bytes h.end) (text_at bytes line) ended.0
 
-    deep_in_rows : (text : Text) → text_at bytes at ≡ after_blanks text → rows_of (text_at bytes line) ≡ None → (p : ℕ)
-        → DeepSections nesting_limit text p → DeepRows nesting_limit (length h.keys + 1) (text_at bytes line) p
-    deep_in_rows text same e p d = rw (← level_here) (its_rows (header_is text same) keys_low over e d)
-
     -- a stop in its rows
     pub rows_stop : (old mid : Gathered) (stop : Stop)
         → RowsAnswered bytes line (length h.keys + 1) old mid (Err stop) → SectionStops bytes at stop
-    unfolding made
     rows_stop old mid stop e = record {
       read = misses_on stop.why (rows_of (text_at bytes line)) _ _ _ by_rows
           (λ rows y g high. let (more, more_is, same) = then_some (sections_of rows.1) _ y g in
@@ -214,7 +205,7 @@ module _ {bytes : List ℕ} {at : ℕ} {h : Header} (read : IsHeaderRead bytes a
       deep = λ text same. at_deep stop.why stop.at _ e.read
           (λ p (d : DeepRows nesting_limit (length h.keys + 1) (text_at bytes line) p).
           deep.this_section (deep.rows (header_is text same) keys_low over (rw level_here d)))
-          (deep_in_rows text same) e.deep;
+          (λ none p d. rw (← level_here) (its_rows (header_is text same) keys_low over none d)) e.deep;
       hole = λ text same some. stops_on {outer = in_sections text}
           (record { on = λ p there d. HoleInSections.in_rows (header_is text same) over d; same = λ there d. refl })
           stop.why (text_at bytes stop.at) e.hole;
@@ -223,7 +214,6 @@ module _ {bytes : List ℕ} {at : ℕ} {h : Header} (read : IsHeaderRead bytes a
     -- its rows
     pub section_there : {old mid : Gathered} {next : Option ℕ} → lines_of old ≡ no_lines
         → AreRowsRead bytes line (length h.keys + 1) old mid next → IsSectionRead bytes at mid h next
-    unfolding made keys_here
     section_there {old = old} {mid = mid} {next = next} empty r =
         let view : made (lines_view r.added) ≡ section_seen h (lines_of mid) =
         ap (λ (l : Lines). made (lines_view l)) (sym (added_lines r empty)) in
@@ -259,11 +249,7 @@ onto_more front s (Some sections) = ap (λ (l : List Section). Some l) (sym (app
 module _ (bytes : List ℕ) (at : ℕ) (list : List Section) (s : ListSoFar bytes (Some at) list) where
   list_from : section_list_of (folded bytes) ≡ onto list (and_then (header_of (text_at bytes at)) sections_from)
   list_from =
-      let (x, line, rest_is, here, b, some) = s.ends in
-      s.told ∙ ap (onto list) (rw (here, rest_is) (sections_is x line))
-
-  bracket_here : text_at bytes at ≡ after_blanks s.rest
-  bracket_here = let (x, line, rest_is, here, b, some) = s.ends in here
+      s.told ∙ ap (onto list) (rw (s.ends.3, s.ends.2) (sections_is s.ends.0 s.ends.1))
 
   -- a section more
   pub list_more : (new : Gathered) (h : Header) (next : Option ℕ) → IsSectionRead bytes at new h next
@@ -274,9 +260,9 @@ module _ (bytes : List ℕ) (at : ℕ) (list : List Section) (s : ListSoFar byte
     told = list_from ∙ ap (onto list) r.is ∙ onto_more list (section_seen h (lines_of new)) (sections_of r.rest);
     limit = omega (arith, s.limit, r.limit, highest_onto list (section_seen h (lines_of new) ∷ []));
     gaps = λ g. let e = (s.gaps g).0 in cc;
-    leads = λ p d. s.leads p (r.leads s.rest bracket_here p d);
-    backs = λ p d. r.backs s.rest bracket_here p (s.backs p d);
-    holes = then_in (r.holes s.rest bracket_here) s.holes;
+    leads = λ p d. s.leads p (r.leads s.rest s.ends.3 p d);
+    backs = λ p d. r.backs s.rest s.ends.3 p (s.backs p d);
+    holes = then_in (r.holes s.rest s.ends.3) s.holes;
   }
 
   -- where none is read, the text stops to be one
@@ -289,16 +275,15 @@ module _ (bytes : List ℕ) (at : ℕ) (list : List Section) (s : ListSoFar byte
         e.read;
     inside = e.inside;
     more = λ g. let none = (s.gaps g).0 in cc;
-    deep = at_deep stop.why stop.at _ e.read s.leads (λ none. s.backs) (e.deep s.rest bracket_here);
+    deep = at_deep stop.why stop.at _ e.read s.leads (λ none. s.backs) (e.deep s.rest s.ends.3);
     hole = stops_on s.holes stop.why (text_at bytes stop.at)
-        (e.hole s.rest bracket_here (let (x, line, rest_is, here, b, some) = s.ends in some));
+        (e.hole s.rest s.ends.3 s.ends.5);
   }
 
 pub falls : (bytes : List ℕ) (at : ℕ) (next : Option ℕ) (rest : Text) → at ≤ length bytes
     → IsFrom (at + 1) next → NextAt bytes rest next → left_after bytes next < left_after bytes (Some at)
 falls bytes at None rest h f n = omega arith
-falls bytes at (Some p) rest h f n =
-    let (x, line, is, here, b, some) = n in omega (arith, b.0)
+falls bytes at (Some p) rest h f n = omega (arith, n.4.0)
 
 -- the end of the text
 pub list_over : (bytes : List ℕ) (list : List Section) → ListSoFar bytes None list → IsList bytes list

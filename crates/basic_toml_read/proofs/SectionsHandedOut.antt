@@ -36,8 +36,7 @@ none_in s empty = let no_parents = empty.rows.0 in let no_rows = empty.rows.1 in
 pub less_than_all : (bytes : List ℕ) (next : Option ℕ) (rest : Text) → NextAt bytes rest next
     → left_after bytes next < length bytes + 2
 less_than_all bytes None rest n = omega arith
-less_than_all bytes (Some at) rest n =
-    let (x, line, is, here, b, some) = n in omega (arith, b.0)
+less_than_all bytes (Some at) rest n = omega (arith, n.4.0)
 
 -- reading stops
 pub stops_on : {old new : SectionReader} {s : code.Section} (stop : Stop) → new.text ≡ old.text

@@ -4,7 +4,7 @@ use Rattle.basic_toml_grammar.proofs.Nesting.WithinTheLimit.{no_header_there}
 use Rattle.basic_toml_read.proofs.StandsIn.{is_err}
 use Rattle.basic_toml_read.proofs.EnoughSteps.{header_is}
 use Rattle.basic_toml_read.proofs.GoesOn.{then_from}
-use Rattle.basic_toml_read.proofs.HeadersRead.{Opened, by_bracket, closed, half_closed, no_header_keys, one_bracket}
+use Rattle.basic_toml_read.proofs.HeadersRead.{Opened, by_bracket, half_closed, no_header_keys, one_bracket}
 use Rattle.basic_toml_read.proofs.HeadersRead.{two_brackets, unclosed}
 use Rattle.basic_toml_read.proofs.header.header_at.Goals.{After-after_blanks, After-after_blanks-in-Some}
 use Rattle.basic_toml_read.proofs.header.header_at.Goals as goal
@@ -42,9 +42,13 @@ pub returns-in_ok-end-in-None-clause-read : goal.returns-in_ok-end-in-None-claus
 returns-in_ok-end-in-None-clause-read c =
     let b = one (goal.at.returns-in_ok-end-in-None-clause-read c).After-after_blanks in
     let k = c.in_ok-after-in-None.ensures.read in
-    let end = c.in_ok-end-in-None.end in
     let e = c.in_ok-end-in-None.ensures.read in
-    closed b k end (by_bracket b k end e) e.1 e.2
+    record {
+      is = by_bracket b k c.in_ok-end-in-None.end e;
+      limit = k.limit;
+      boundary = e.1;
+      later = omega (arith, b.later, k.later, e.2);
+    }
 
 -- the header of an array
 pub returns-in_err-after-in-Some : goal.returns-in_err-after-in-Some
@@ -73,5 +77,9 @@ returns-in_ok-end-in-Some-clause-read c =
     let k = c.in_ok-after-in-Some.ensures.read in
     let closes = c.in_ok-last-in-Some.ensures.read in
     let e = c.in_ok-end-in-Some.ensures.read in
-    closed b k c.in_ok-end-in-Some.end (by_bracket b k c.in_ok-last-in-Some.last closes ∙ then_from _ e.0) e.1
-    (omega (arith, closes.2, e.2))
+    record {
+      is = by_bracket b k c.in_ok-last-in-Some.last closes ∙ then_from _ e.0;
+      limit = k.limit;
+      boundary = e.1;
+      later = omega (arith, b.later, k.later, closes.2, e.2);
+    }

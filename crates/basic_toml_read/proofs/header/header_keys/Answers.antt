@@ -3,7 +3,6 @@ use Rattle.std.proofs.lemmas.List.{map-append}
 use Rattle.basic_toml_tokens.specs.Text.{text_at}
 use Rattle.basic_toml_read.specs.declared.section.Key.{Key}
 use Rattle.basic_toml_read.specs.SectionView.{key_of}
-use Rattle.basic_toml_explain.specs.declared.stop.Why.TheVariants.{Deep}
 use Rattle.basic_toml_read.proofs.StandsIn.{is_err}
 use Rattle.basic_toml_read.proofs.KeysTold.{key_too_deep, no_key, told_start, told_more, told_last}
 use Rattle.basic_toml_read.proofs.LeftAfter.{sign_missing}
