@@ -1,4 +1,4 @@
--- Keys, strings and words at an offset, against the grammar.
+-- Keys and strings at an offset, against the grammar.
 use Rattle.std.proofs.Common.{inl, inr, ◌≡◌, ℕ, Bool, List, [], ◌∷◌, length, refl, ap, sym, ◌∙◌, arith, encode_utf8_all}
 use Rattle.std.proofs.Common.{Option, Some, None, Result, Ok, Err}
 use Rattle.std.specs.Str.{IsUtf8, IsCharBoundary}
@@ -34,7 +34,7 @@ use Rattle.basic_toml_grammar.proofs.Grammar.StringsAreRead.{string_found, strin
 use Rattle.basic_toml_grammar.proofs.Grammar.CopiesAgree.{copies_agree}
 use Rattle.basic_toml_explain.proofs.TakenTokenStands.{keylike_small}
 use Rattle.basic_toml_read.proofs.GoesOn.{same_found, then_from}
-use Rattle.basic_toml_read.proofs.WordIsRead.{run_small, word_text}
+use Rattle.basic_toml_read.proofs.WordIsRead.{run_small}
 
 -- the bytes of a bare key
 pub bare_text : (bytes : List ℕ) (at end : ℕ) → IsRun is_keylike bytes at end
@@ -121,18 +121,3 @@ module _ (bytes : List ℕ) (at : ℕ) (whole : IsUtf8 bytes) (here : IsCharBoun
       → string_value_at (text_at bytes at) ≡ Some (value_to end body copied)
   string_to end {m = m} {value = value} there s spelled is =
       then_from _ (string_found s) ∙ rw (spelled, is ∙ copies_agree bytes at end _ m value whole here there s) refl
-
--- words
-pub word_run : (bytes : List ℕ) (at end : ℕ) → IsUtf8 bytes → IsCharBoundary bytes at
-    → Leaves bytes at end (after_run is_wordlike (text_at bytes at)) → (at ≡ end → ⊥)
-    → (between bytes at end ≡ run is_wordlike (text_at bytes at)) × (run is_wordlike (text_at bytes at) ≡ [] → ⊥)
-word_run bytes at end whole here l some =
-    let text = word_text bytes at end whole here l.boundary l.left in (
-      text,
-      λ e. some (omega (
-        arith,
-        ap length (text ∙ e),
-        length-between bytes at end l.forward l.boundary.0,
-        l.forward,
-      )),
-    )

@@ -15,6 +15,7 @@ use Rattle.basic_toml_numbers.proofs.FirstDigits.{are_first}
 use Rattle.basic_toml_tokens.specs.Text.{Text, text_at, run, after_run}
 use Rattle.basic_toml_tokens.specs.Reading.{between, IsRun}
 use Rattle.basic_toml_tokens.proofs.RestsArePartsOfText.{part_later}
+use Rattle.basic_toml_tokens.proofs.TextBetweenOffsets.{length-between}
 use Rattle.basic_toml_tokens.proofs.StepIsTheFold.{offset_is}
 use Rattle.basic_toml_tokens.proofs.RunsAreFound.{IsRunTest, run_by_bytes}
 use Rattle.basic_toml_grammar.specs.Sections.{Raw}
@@ -46,19 +47,22 @@ run_small f small (x ∷ text) zero =
 run_small f small (x ∷ text) (suc i) =
     elim (cases_Bool (f x.1)) [ inl e ↦ rw e (run_small f small text i) | inr e ↦ rw e (omega arith) ]
 
--- the bytes of a word
-pub word_text : (bytes : List ℕ) (start end : ℕ) → IsUtf8 bytes → IsCharBoundary bytes start
-    → IsCharBoundary bytes end → text_at bytes end ≡ after_run is_wordlike (text_at bytes start)
-    → between bytes start end ≡ run is_wordlike (text_at bytes start)
-word_text bytes start end whole begins ends rest =
-    let stop = start + prefix_len is_wordlike (drop start bytes) in
-    let r : IsRun is_wordlike bytes start stop = run_by_bytes is_wordlike wordlike_test bytes start whole begins in
-    let same : text_at bytes stop ≡ text_at bytes end = r.rest ∙ sym rest in
-    let first : stop ≤ end = part_later bytes stop end whole r.boundary.0 ends (0, sym same) in
-    let second : end ≤ stop = part_later bytes end stop whole ends.0 r.boundary (0, same) in
+-- the bytes of a word, which is not empty
+pub word_run : (bytes : List ℕ) (at end : ℕ) → IsUtf8 bytes → IsCharBoundary bytes at
+    → Leaves bytes at end (after_run is_wordlike (text_at bytes at)) → (at ≡ end → ⊥)
+    → (between bytes at end ≡ run is_wordlike (text_at bytes at)) × (run is_wordlike (text_at bytes at) ≡ [] → ⊥)
+word_run bytes at end whole here l some =
+    let stop = at + prefix_len is_wordlike (drop at bytes) in
+    let r : IsRun is_wordlike bytes at stop = run_by_bytes is_wordlike wordlike_test bytes at whole here in
+    let same : text_at bytes stop ≡ text_at bytes end = r.rest ∙ sym l.left in
+    let first : stop ≤ end = part_later bytes stop end whole r.boundary.0 l.boundary (0, sym same) in
+    let second : end ≤ stop = part_later bytes end stop whole l.boundary.0 r.boundary (0, same) in
     let e : stop ≡ end = omega arith in
-    rw (← e) (sym r.spelled ∙ encodes-IsAscii (run is_wordlike (text_at bytes start))
-    (run_small is_wordlike wordlike_small (text_at bytes start)))
+    let text : between bytes at end ≡ run is_wordlike (text_at bytes at) =
+    rw (← e) (sym r.spelled ∙ encodes-IsAscii (run is_wordlike (text_at bytes at))
+    (run_small is_wordlike wordlike_small (text_at bytes at))) in
+    let long = length-between bytes at end l.forward l.boundary.0 in
+    (text, λ none. some (omega (arith, ap length (text ∙ none), long, l.forward)))
 
 -- what the grammar has at a word
 pub word_stands : (bytes : List ℕ) (start end : ℕ) (word : List ℕ) (v : Raw)

@@ -8,8 +8,7 @@ use Rattle.basic_toml_tokens.specs.Reading.{between}
 use Rattle.basic_toml_grammar.specs.Sections.{Raw}
 use Rattle.basic_toml_read.specs.declared.section.Raw.{the_lemmas}
 use Rattle.basic_toml_read.specs.Word.{raw_of}
-use Rattle.basic_toml_read.proofs.ScalarsRead.{word_run}
-use Rattle.basic_toml_read.proofs.WordIsRead.{digits_here, word_missing, word_stands}
+use Rattle.basic_toml_read.proofs.WordIsRead.{digits_here, word_missing, word_run, word_stands}
 use Rattle.basic_toml_explain.proofs.TakenTokenStands.{run_over}
 use Rattle.basic_toml_grammar.specs.Grammar.{word_value}
 use Rattle.basic_toml_read.proofs.scalar.word_at.Goals.{in-Some+else-ends_word, in-None}

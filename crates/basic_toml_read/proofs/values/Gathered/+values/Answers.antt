@@ -79,13 +79,9 @@ elements-returns-in_err-valued t c =
 
 pub elements-returns-in_default-after_punctuation : goal.elements-returns-in_default-after_punctuation
 elements-returns-in_default-after_punctuation t c =
-    let i = c.loop-end.invariant in
-    let found = c.in_ok-valued.ensures.read in
-    let left = c.after_gap-after.ensures in
-    let last = c.in_default-after_punctuation.ensures in
-    let r = c.closed in
-    elements_close i c.in_default.ensures found left c.push.new.self c.in_ok-push.ensures.items last r.result
-    r.ensures.read
+    elements_close c.loop-end.invariant c.in_default.ensures c.in_ok-valued.ensures.read c.after_gap-after.ensures
+    c.push.new.self c.in_ok-push.ensures.items c.in_default-after_punctuation.ensures c.closed.result
+    c.closed.ensures.read
 
 -- the rows of an inline table
 pub fields-loop-after-init : goal.fields-loop-after-init
@@ -129,12 +125,8 @@ fields-returns-in_err-row t c =
 
 pub fields-returns-in_default-after_punctuation : goal.fields-returns-in_default-after_punctuation
 fields-returns-in_default-after_punctuation t c =
-    let i = c.loop-after.invariant in
-    let found = c.in_ok-row.ensures.read in
-    let left = c.after_blanks-after.ensures in
-    let last = c.in_default-after_punctuation.ensures in
-    let r = c.closed in
-    fields_close i found left last r.result r.ensures.read
+    fields_close c.loop-after.invariant c.in_ok-row.ensures.read c.after_blanks-after.ensures
+    c.in_default-after_punctuation.ensures c.closed.result c.closed.ensures.read
 
 -- a row
 pub row-returns-in_err-last : goal.row-returns-in_err-last
