@@ -29,15 +29,6 @@ sign_after_blanks : (c : ℕ) (text : Text) (s : ℕ × Text) → char_at c (aft
     → length s.1 < length text
 sign_after_blanks c text s e = shorter_after_blanks text (sign_read c (after_blanks text) s e)
 
-sign_after_gap : (c : ℕ) (text : Text) (s : ℕ × Text) → char_at c (gap text) ≡ Some s → length s.1 < length text
-sign_after_gap c text s e = shorter_after_gap text (sign_read c (gap text) s e)
-
-value_rest : (n : ℕ) (text : Text) (v : Valued) → value_at n text ≡ Some v → length v.rest < length text
-value_rest n text v e = value_shorter (value_read n text v e)
-
-row_rest : (n : ℕ) (text : Text) (v : Assigned) → row_at n text ≡ Some v → length v.rest < length text
-row_rest n text v e = row_shorter (row_read n text v e)
-
 -- two readings find the same in shorter texts
 abbrev SameBelow : {A : Type 0} → Text → (Text → Option A) → (Text → Option A) → Type 0
 SameBelow text f g = (t : Text) → length t < length text → f t ≡ g t
@@ -92,7 +83,12 @@ elements_step n value more text same h =
     found_alike (char_at 93 text) _ _ _ _ (λ _ _. refl) (λ _.
     then_alike (value_at n text) _ _ (λ v e. found_alike (char_at 44 (gap v.rest)) _ _ _ _
     (λ s f. then_from _ (h (gap s.1)
-    (omega (arith, value_rest n text v e, sign_after_gap 44 v.rest s f, gap_length s.1)))) (λ _. refl))
+    (omega (
+      arith,
+      value_shorter (value_read n text v e),
+      shorter_after_gap v.rest (sign_read 44 (gap v.rest) s f),
+      gap_length s.1,
+    )))) (λ _. refl))
     ∙ then_from _ same)
 
 fields_on_step : (n : ℕ) (row_there : Text → Option Assigned) (more : Text → Option (Rows × Text)) (text : Text)
@@ -101,7 +97,8 @@ fields_on_step : (n : ℕ) (row_there : Text → Option Assigned) (more : Text �
 fields_on_step n row_there more text same h =
     then_alike (row_at n text) _ _ (λ v e. found_alike (char_at 44 (after_blanks v.rest)) _ _ _ _
     (λ s f. then_from _ (h (after_blanks s.1)
-    (omega (arith, row_rest n text v e, sign_after_blanks 44 v.rest s f, blanks_length s.1)))) (λ _. refl))
+    (omega (arith, row_shorter (row_read n text v e), sign_after_blanks 44 v.rest s f, blanks_length s.1))))
+    (λ _. refl))
     ∙ then_from _ same
 
 sections_step : (n : ℕ) (header : Text → Option Headed) (rows : Text → Option (Rows × Text))
@@ -248,7 +245,7 @@ rows_is x text =
     (λ next f. then_from _ (rows_enough n _ next (omega (
       arith,
       blanks_length (x ∷ text),
-      row_rest (suc n) front v e,
+      row_shorter (row_read (suc n) front v e),
       ends_shorter (line_end_read v.rest next f),
     )) (omega arith))))
     ∙ then_from _ (row_enough (suc n) _ front (omega (arith, blanks_length (x ∷ text))) (omega arith)))))

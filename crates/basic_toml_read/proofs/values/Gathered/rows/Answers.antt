@@ -17,10 +17,8 @@ use Rattle.basic_toml_read.proofs.values.Gathered.rows.Goals as goal
 -- a line without a header
 no_header : (c : Else-is_some) → NoHeader c.args.text.now c.loop-at.at c.after_blanks-front.result
 no_header c = record {
-  line = line_here c.args.text.now c.loop-at.at c.after_blanks-front.result c.utf8.text c.loop-at.invariant.boundary
-      c.loop-at-test.true c.after_blanks-front.ensures;
-  none = sign_lacks 91 c.args.text.now c.after_blanks-front.result c.after_punctuation.result
-      c.after_punctuation.ensures c.if-is_some.ensures;
+  line = line_here _ _ _ c.utf8.text c.loop-at.invariant.boundary c.loop-at-test.true c.after_blanks-front.ensures;
+  none = sign_lacks 91 c.args.text.now c.after_blanks-front.result _ c.after_punctuation.ensures c.if-is_some.ensures;
 }
 
 -- one of a comment
@@ -32,8 +30,8 @@ comment c =
 -- one without a comment at its front
 no_hash : (c : Else-is_some-2) → IsPunctuationEnd 35 c.args.text.now c.after_blanks-front.result None
 no_hash c =
-    sign_lacks 35 c.args.text.now c.after_blanks-front.result c.after_punctuation-in-loop-at.result
-    c.after_punctuation-in-loop-at.ensures c.if-is_some-2.ensures
+    sign_lacks 35 c.args.text.now c.after_blanks-front.result _ c.after_punctuation-in-loop-at.ensures
+    c.if-is_some-2.ensures
 
 same_end : (c : Else-is_some-2) → line_end_at (text_at c.args.text.now c.loop-at.at)
     ≡ end_of (text_at c.args.text.now c.after_blanks-front.result)
