@@ -83,12 +83,9 @@ stands : (x : ℕ × ℕ) (text : Text) → (x.1 == 10) ≡ false → is_blank x
     → after_gap is_comment (x ∷ text) ≡ x ∷ text
 stands x text a b c = rw (or_from (is_blank x.1) (x.1 == 10) b a, c) refl
 
-pub blank_stops : (text : Text) → after_blanks (after_blanks text) ≡ after_blanks text
-blank_stops text = after_twice is_blank text
-
 pub gap_stops : (text : Text) → after_run (λ c. c == 10) (line_of text) ≡ line_of text
     → after_gap is_comment (line_of text) ≡ line_of text
-gap_stops text e = go (after_blanks text) (blank_stops text) e
+gap_stops text e = go (after_blanks text) (after_twice is_blank text) e
   where
     after : (t : Text) → after_run is_comment t ≡ t → after_run (λ c. c == 10) t ≡ t → after_gap is_comment t ≡ t
     after [] h k = refl

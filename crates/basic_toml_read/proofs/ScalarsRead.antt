@@ -19,7 +19,6 @@ use Rattle.basic_toml_tokens.proofs.StepIsTheFold.{offset_is}
 use Rattle.basic_toml_tokens.proofs.TokenIsUnique.{no_break}
 use Rattle.basic_toml_grammar.specs.Sections as sections
 use Rattle.basic_toml_grammar.specs.Entering.{and_then}
-use Rattle.basic_toml_grammar.specs.Grammar.{is_wordlike}
 use Rattle.basic_toml_grammar.specs.Reader as reader
 use Rattle.basic_toml_grammar.specs.Reader.{string_at, bare_key_at, quoted_key, key_at, string_value_at, word_at}
 use Rattle.basic_toml_explain.specs.declared.stop.Stop.{Stop}
@@ -29,7 +28,6 @@ use Rattle.basic_toml_read.specs.declared.scalar.Keyed.{Keyed}
 use Rattle.basic_toml_read.specs.declared.key_text.KeyText.{KeyText}
 use Rattle.basic_toml_read.specs.KeyText.{key_text_bytes}
 use Rattle.basic_toml_read.specs.StopsAt.{why_of, ReadsKeyAt, IsKeyOf}
-use Rattle.basic_toml_read.specs.AtPlace.{Leaves}
 use Rattle.basic_toml_grammar.proofs.Grammar.StringsAreRead.{string_found, string_read}
 use Rattle.basic_toml_grammar.proofs.Grammar.CopiesAgree.{copies_agree}
 use Rattle.basic_toml_explain.proofs.TakenTokenStands.{keylike_small}

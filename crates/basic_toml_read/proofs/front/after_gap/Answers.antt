@@ -1,7 +1,8 @@
 use Rattle.std.proofs.Common.{ap, sym, ◌∙◌, arith}
-use Rattle.basic_toml_tokens.specs.Text.{text_at, after_blanks, is_comment}
+use Rattle.basic_toml_tokens.specs.Text.{text_at, after_blanks, is_blank, is_comment}
+use Rattle.basic_toml_tokens.proofs.SpacesAreRuns.{after_twice}
 use Rattle.basic_toml_grammar.specs.Grammar.{after_gap}
-use Rattle.basic_toml_read.proofs.LeftAfter.{gap_past_blanks, gap_past_feed, gap_stands, blank_stops}
+use Rattle.basic_toml_read.proofs.LeftAfter.{gap_past_blanks, gap_past_feed, gap_stands}
 use Rattle.basic_toml_read.proofs.front.after_gap.Goals as goal
 
 pub loop-next-init : goal.loop-next-init
@@ -10,7 +11,7 @@ loop-next-init c =
     let blanks = c.after_blanks-end.ensures in
     record {
       rest = ap (after_gap is_comment) blanks.left ∙ gap_past_blanks text;
-      bare = ap after_blanks blanks.left ∙ blank_stops text ∙ sym blanks.left;
+      bare = ap after_blanks blanks.left ∙ after_twice is_blank text ∙ sym blanks.left;
       boundary = blanks.boundary;
       forward = blanks.forward;
     }
@@ -22,7 +23,7 @@ loop-next-preserved c =
     record {
       rest = ap (after_gap is_comment) blanks.left ∙ gap_past_blanks text ∙ gap_past_feed c.in-Some.ensures.0 ∙
           c.loop-next.invariant.rest;
-      bare = ap after_blanks blanks.left ∙ blank_stops text ∙ sym blanks.left;
+      bare = ap after_blanks blanks.left ∙ after_twice is_blank text ∙ sym blanks.left;
       boundary = blanks.boundary;
       forward = omega (arith, blanks.forward, c.in-Some.ensures.2);
     }

@@ -50,20 +50,13 @@ overflow_add-end c =
     (digits_here c.args.at c.as_bytes.ensures.value c.utf8.text c.requires c.in-Some.ensures).within in
     search rules
 
-pub end_of_word-after-requires-clause-boundary : goal.end_of_word-after-requires-clause-boundary
-end_of_word-after-requires-clause-boundary c =
+pub end_of_word-after-requires : goal.end_of_word-after-requires
+end_of_word-after-requires c =
     elim c.match-first_digits.branch [
-      | in-Some+else-ends_word w ↦ rw w.from-is
-          (digits_here c.args.at c.as_bytes.ensures.value c.utf8.text c.requires w.in-Some.ensures).boundary
-      | in-None w ↦ rw w.from-is c.requires
-    ]
-
-pub end_of_word-after-requires-clause-same_rest : goal.end_of_word-after-requires-clause-same_rest
-end_of_word-after-requires-clause-same_rest c =
-    elim c.match-first_digits.branch [
-      | in-Some+else-ends_word w ↦ rw w.from-is
-          (digits_here c.args.at c.as_bytes.ensures.value c.utf8.text c.requires w.in-Some.ensures).behind
-      | in-None w ↦ rw w.from-is refl
+      | in-Some+else-ends_word w ↦
+          (let here = digits_here c.args.at c.as_bytes.ensures.value c.utf8.text c.requires w.in-Some.ensures in
+          rw w.from-is (record { boundary = here.boundary; forward = omega arith; same_rest = here.behind }))
+      | in-None w ↦ rw w.from-is (record { boundary = c.requires; forward = omega arith; same_rest = refl })
     ]
 
 pub returns-then-ends_word-clause-read : goal.returns-then-ends_word-clause-read
