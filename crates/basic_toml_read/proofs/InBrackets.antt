@@ -1,4 +1,4 @@
--- Arrays and inline tables: as values, by what stands in their brackets, and whole.
+-- Arrays and inline tables as values, by what stands in their brackets.
 use Rattle.std.proofs.Common.{◌≡◌, ℕ, ◌+◌, ◌<◌, ◌≤◌, List, ◌++◌, length, drop, take, refl, ◌∙◌, arith, Some, None}
 use Rattle.std.proofs.Common.{Option, Result, Ok, Err, subst}
 use Rattle.std.proofs.Math.Seq.{drop-append_seam, take-append_seam}

@@ -1,4 +1,4 @@
--- What `sections` answers: the list that is read, or why there is none.
+-- Why `sections` answers no list: the error of a stop is one that the text allows.
 use Rattle.std.proofs.Common.{inl, inr, ◌<◌, ℕ, List, sym, subst}
 use Rattle.std.specs.Prelude.{IsUtf8}
 use Rattle.basic_toml_value.specs.Nesting.{nesting_limit}

@@ -29,7 +29,7 @@ use Rattle.basic_toml_read.specs.SectionView.{key_of}
 use Rattle.basic_toml_grammar.proofs.Grammar.StringsAreRead.{then_some}
 use Rattle.basic_toml_grammar.proofs.Nesting.WithinTheLimit as within
 use Rattle.basic_toml_grammar.proofs.Grammar.ReaderIsSound.{rows_read, header_read, line_end_read}
-use Rattle.basic_toml_read.proofs.StandsIn.{stops_on, at_deep, then_in, newline_stop}
+use Rattle.basic_toml_read.proofs.StandsIn.{stops_on, at_deep, then_in}
 use Rattle.basic_toml_read.proofs.RowsRead.{RowsAnswered}
 use Rattle.basic_toml_read.proofs.NothingTooDeep.{root_rows, after_header, its_rows}
 use Rattle.basic_toml_read.proofs.EnoughSteps.{list_is, sections_is}
@@ -176,8 +176,10 @@ module _ {bytes : List ℕ} {at : ℕ} {h : Header} (read : IsHeaderRead bytes a
     read = misses_none stop.why (and_then (header_of (text_at bytes at)) sections_from) _ (by_line ∙ then_from _ c.0);
     inside = inside;
     deep = λ text same. rw c.1 (λ p d. after_header (header_is text same) keys_low c.0 d);
-    hole = λ text same some. newline_stop (in_sections text) stop.why (text_at bytes stop.at) c.1
-        (rw c.2 (HoleInSections.after_header (header_is text same))) (ap end_of c.2 ∙ c.0);
+    hole = λ text same some. rw c.1 (
+      rw c.2 (HoleInSections.after_header (header_is text same)),
+      ap end_of c.2 ∙ c.0,
+    );
   }
 
   module _ (line : ℕ) (ended : EndsLineAt bytes h.end (Ok line)) where

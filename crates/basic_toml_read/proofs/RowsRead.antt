@@ -33,7 +33,7 @@ use Rattle.basic_toml_read.proofs.LeftAfter.{sign_there, sign_missing, gap_past_
 use Rattle.basic_toml_read.proofs.LeftAfter.{gap_has_no_bracket, line_of}
 use Rattle.basic_toml_read.proofs.GoesOn.{after, after_from, after_one, found_from, misses_after, misses_none}
 use Rattle.basic_toml_read.proofs.GoesOn.{then_from}
-use Rattle.basic_toml_read.proofs.StandsIn.{SameDeep, at_deep, then_deep, then_in, StopIn, newline_stop, stops_on}
+use Rattle.basic_toml_read.proofs.StandsIn.{SameDeep, at_deep, then_deep, then_in, StopIn, stops_on}
 use Rattle.basic_toml_read.proofs.LinesGathered.{LinesSoFar, row_first, row_stands, lines_alone, lines_more}
 
 pub record RowsSoFar (bytes : List ℕ) (start level at : ℕ) (old new : Gathered) : Type 0 where
@@ -252,9 +252,10 @@ module _ {bytes : List ℕ} {start level at : ℕ} {old new : Gathered} (s : Row
             inside = inside;
             gaps = λ g. absurd (rows_no_gap g);
             deep = rw e.1 (λ p d. within.last_row_line stands r.limit e.0 (s.deep.backs p d));
-            hole = newline_stop (in_rows (text_at bytes start)) stop.why (text_at bytes stop.at) e.1
-                (s.holes.on Hole.after_line (text_at bytes stop.at) (rw e.2 (HoleInRows.after_row stands)))
-                (ap end_of e.2 ∙ e.0);
+            hole = rw e.1 (
+              s.holes.on Hole.after_line (text_at bytes stop.at) (rw e.2 (HoleInRows.after_row stands)),
+              ap end_of e.2 ∙ e.0,
+            );
           }
 
           pub rows_more : (next : ℕ) → EndsLineAt bytes after' (Ok next) → RowsSoFar bytes start level next old new'

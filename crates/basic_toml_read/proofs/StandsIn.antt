@@ -121,11 +121,6 @@ key_stops_on text outer f why.Deep at s = tt
 key_stops_on text outer f why.Key at s = (f at s.0, s.1)
 key_stops_on text outer f _ at s = absurd s
 
--- a line that goes on
-pub newline_stop : (holes : Holes) (w : Why) (at : Text) → w ≡ why.Newline → holes.HoleIn Hole.after_line at
-    → end_of at ≡ None → StopsFor holes.HoleIn holes.behind w at
-newline_stop holes w at e d none = rw e (d, none)
-
 -- where two signs are missing, nothing fits in a hole that takes no other
 pub nothing_fits : (h : Hole) (a b : ℕ) (text : Text) → char_at a text ≡ None → char_at b text ≡ None
     → ((c : ℕ) → fits h c ≡ (c == a || c == b)) → Fits h text → ⊥
