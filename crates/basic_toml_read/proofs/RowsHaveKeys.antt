@@ -38,9 +38,7 @@ last_is_one (l ∷ ks) k = refl
 -- each row has a key
 lines_are_keyed : (parents : List Key) (ls : List Lined) → rows_keyed (rows_from parents ls) ≡ true
 lines_are_keyed parents [] = refl
-lines_are_keyed parents (l ∷ ls) =
-    one_more (take l.parents parents) (rows_from (drop l.parents parents) ls)
-    (lines_are_keyed (drop l.parents parents) ls)
+lines_are_keyed parents (l ∷ ls) = one_more (take l.parents parents) _ (lines_are_keyed (drop l.parents parents) ls)
   where
     one_more : (ks : List Key) (rows : Rows) → rows_keyed rows ≡ true
         → rows_keyed (row (ks ++ l.key ∷ []) l.start l.value rows) ≡ true

@@ -6,7 +6,7 @@ use Rattle.std.specs.Result.{IsErrAnd}
 use Rattle.std.proofs.lemmas.Bool.{or_cases}
 use Rattle.basic_toml_tokens.specs.Text.{Text, text_at}
 use Rattle.basic_toml_grammar.specs.Holes.{Fits, fits, Hole, HoleInKeys}
-use Rattle.basic_toml_grammar.specs.Reader.{char_at, end_of}
+use Rattle.basic_toml_grammar.specs.Reader.{char_at}
 use Rattle.basic_toml_explain.specs.Stop.{StopsInside}
 use Rattle.basic_toml_explain.specs.declared.stop.Stop.{Stop}
 use Rattle.basic_toml_explain.specs.declared.stop.Why.{Why}
