@@ -15,17 +15,13 @@ mod texts;
 
 use std::alloc::Global;
 use std::env;
-use std::io::{self, Read, Write};
+use std::io::{self, Write};
 use std::process::ExitCode;
+use toml_streams::read_all;
 
 const REFUSED: u8 = 1;
 
 const FAILED: u8 = 3;
-
-// Room for the whole of most texts.
-const ROOM: usize = 1 << 20;
-
-const PIECE: usize = 1 << 12;
 
 /// How doing it ended.
 pub(crate) enum Ended {
@@ -49,27 +45,11 @@ fn main(rt: HostRuntime) -> ExitCode {
     }
 }
 
-// All of standard input, in pieces and with room from the start: so it is held once, as by a program that asks for the
-// size of the file.
-fn standard_input(rt: &HostRuntime) -> io::Result<Vec<u8>> {
-    let mut input = Vec::with_capacity(rt.alloc(), ROOM)?;
-    let mut reader = rt.reader();
-    let mut piece = [0u8; PIECE];
-    for _ in 0..u64::MAX {
-        let count = reader.read(&mut piece)?;
-        if count == 0 {
-            return Ok(input);
-        }
-        input.extend_from_slice(&piece[..count])?;
-    }
-    Err(io::Error::from(io::ErrorKind::Other))
-}
-
 fn measured(rt: &HostRuntime) -> io::Result<Ended> {
     let mut arguments = env::args(rt)?;
     let _program = arguments.next();
     let what = arguments.next();
-    let input = standard_input(rt)?;
+    let input = read_all(rt.alloc(), &mut rt.reader())?;
     match what.as_ref().map_or("read", |word| word.as_str()) {
         "read" => texts::read(rt.alloc(), input.as_slice()),
         "tokens" => texts::take_tokens(rt.alloc(), input.as_slice()),

@@ -18,9 +18,12 @@ pub use source::{Disk, STANDARD_INPUT, Source, display_name};
 use std::alloc::Global;
 use std::io::{self, Read, Write};
 
-const CHUNK: usize = 4096;
+// Room for the whole of most files: it takes no memory of the machine before it is filled.
+const ROOM: usize = 1 << 20;
 
-/// All bytes that are left.
+const CHUNK: usize = 1 << 12;
+
+/// All bytes that are left. Up to a megabyte of them is held once; where there are more, the room grows by doubling.
 ///
 /// # Errors
 ///
@@ -28,7 +31,7 @@ const CHUNK: usize = 4096;
 pub fn read_all<R: Read>(alloc: Global, reader: &mut R) -> Result<Vec<u8>, io::Error>
     ensures { IfOk result (λ bytes. IfSome (R.remaining reader.old) (λ left. bytes.items ≡ left)) }
 {
-    let mut bytes = Vec::new(alloc);
+    let mut bytes = Vec::with_capacity(alloc, ROOM)?;
     let mut chunk = [0u8; CHUNK];
     for _ in 0..u64::MAX {
         let n = reader.read(&mut chunk)?;
