@@ -1,18 +1,20 @@
 -- What a section does to a table, to what stands at a key and to an item, by the keys of its header that are left: what
 -- is entered or is met first, what its rows bring, and what its header marks. What it does to one of these it does to
--- what holds that one.
+-- what holds that one. It goes on from an item as from what stood at its key: where that is the item, where the item is
+-- new, and where it has one table more.
 use Rattle.std.specs.Box as boxes
 use Rattle.std.specs.List.{slice_get}
 use Rattle.std.proofs.Common.{◌≡◌, ◌≤◌, ◌<◌, ℕ, suc, ◌+◌, Bool, true, false, List, [], ◌∷◌, length, map, Some, refl, ap}
-use Rattle.std.proofs.Common.{ap₂, sym, ◌∙◌, arith, inr, Vec, Box, Global, Result, Err, IsErrAnd}
+use Rattle.std.proofs.Common.{ap₂, sym, ◌∙◌, arith, inr, Vec, Box, Global, Result, Err, IsErrAnd, rules}
 use Rattle.std.proofs.lemmas.Iterator.Adapters.{option_map_id}
 use Rattle.std.proofs.lemmas.Result.{IfOk-weaker, err_from_is_err_and}
+use Rattle.std.proofs.lemmas.List.{map-append}
 use Rattle.basic_toml_value.specs.Nesting.{nesting_limit}
 use Rattle.basic_toml_value.specs.Growth.{FindsOrAdds, with_value, values_of}
 use Rattle.basic_toml_value.specs.declared.pairs.growth.Place.{Place}
 use Rattle.basic_toml_grammar.specs.Sections.{KeyTexts, Rows}
 use Rattle.basic_toml_grammar.specs.Stops.{at_header}
-use Rattle.basic_toml_grammar.specs.Trie.{put_element, walk, count, steps_on, steps_to}
+use Rattle.basic_toml_grammar.specs.Trie.{put_element, walk, count, steps_on, steps_to, Trie, nothing}
 use Rattle.basic_toml_plain.specs.Tries.{leaf}
 use Rattle.basic_toml_read.specs.declared.section.Key as code
 use Rattle.basic_toml_read.specs.KeyText.{key_text_bytes}
@@ -26,23 +28,91 @@ use Rattle.basic_toml_grow.specs.declared.clash.Clash.TheVariants.{Deep, Header}
 use Rattle.basic_toml_grow.specs.Clash.{NamesObstacle, in_the_way}
 use Rattle.basic_toml_grow.specs.Item.{child_trie, item_trie, table_trie, trie_before, is_section}
 use Rattle.basic_toml_grow.specs.Simple.{with_entries}
-use Rattle.basic_toml_grow.specs.Headers.{IsKeptOut, IsNew, entered_at, highest, is_last}
+use Rattle.basic_toml_grow.specs.Headers.{IsKeptOut, IsNew, entered_at, highest, is_last, IsNewTable, IsNewArray}
+use Rattle.basic_toml_grow.specs.Headers.{HasOneMore}
 use Rattle.basic_toml_grow.specs.Obstacles.{element_obstacle}
 use Rattle.basic_toml_grow.specs.Origins.{child_origins, item_origins, origins_before, rows_origins, table_within}
+use Rattle.basic_toml_grow.specs.Origins.{Origins, no_origins}
 use Rattle.basic_toml_grow.specs.Ways.{way, way_by, way_at}
 use Rattle.basic_toml_grow.specs.Takes.{TakesHeader, TakesHeaderAtKey, TakesHeaderInItem}
 use Rattle.basic_toml_grow.proofs.HeadersInATrie.{array_of, Course, course, course_by, course_barred, course_latest}
-use Rattle.basic_toml_grow.proofs.HeadersInATrie.{deep_met, entered_on, in_latest, in_table}
+use Rattle.basic_toml_grow.proofs.HeadersInATrie.{deep_met, entered_on, in_latest, in_table, fresh, course_at}
+use Rattle.basic_toml_grow.proofs.HeadersInATrie.{course_fresh, course_next, no_last}
 use Rattle.basic_toml_grow.proofs.HeadersNamed.{texts_count}
 use Rattle.basic_toml_grow.proofs.ItemTries.{child_item_trie, table_entries_trie}
 use Rattle.basic_toml_grow.proofs.TablesOpened.{table_item_trie, tables_trie}
-use Rattle.basic_toml_grow.proofs.HeadersEntered.{holding, holding_trie, other_is_leaf, out_holding}
-use Rattle.basic_toml_grow.proofs.HeadersEntered.{passed_course, passed_table, passed_trie, passed_with, passes}
-use Rattle.basic_toml_grow.proofs.HeadersLead.{Leads, lead, no_new_section}
+use Rattle.basic_toml_grow.proofs.HeadersEntered.{holding, holding_trie, other_is_leaf, out_holding, passed_course}
+use Rattle.basic_toml_grow.proofs.HeadersEntered.{passed_table, passed_trie, passed_with, passes}
 use Rattle.basic_toml_grow.proofs.Origins.OriginsSeen.{child_seen, table_item_seen, table_origins}
-use Rattle.basic_toml_grow.proofs.Origins.HeadersPlaceOrigins.{entry_grows, grows_after, holding_origins, passed_grows}
+use Rattle.basic_toml_grow.proofs.Origins.HeadersPlaceOrigins.{entry_keeps, grows_after, holding_origins, passed_grows}
+use Rattle.basic_toml_grow.proofs.Origins.HeadersPlaceOrigins.{Keeps, new_table_keeps, passed_marks}
 use Rattle.basic_toml_grow.proofs.Origins.ElementsPlaceOrigins.{latest_grows, latest_marks, table_marked}
-use Rattle.basic_toml_grow.proofs.Origins.HeadersMark.{passed_marks}
+use Rattle.basic_toml_grow.proofs.Origins.ElementsPlaceOrigins.{new_array_keeps, more_keeps}
+
+pub record Leads (a : Bool) (rows : Rows) (keys : KeyTexts) (l : ℕ) (before : Trie) (came : ℕ → ℕ → Origins)
+    (i : items.Item) : Type 0 where
+  pub same : course_at a rows keys l before ≡ course_by a rows keys l (item_trie i)
+  pub keeps : (at s : ℕ) → Keeps (way_by a keys (item_trie i)) (came at s) (item_origins i at s)
+
+-- a new table, and an array of one new table
+table_leads : (a : Bool) (rows : Rows) (keys : KeyTexts) (l : ℕ) (i : items.Item) → is_last a keys ≡ false
+    → IsNewTable i → Leads a rows keys l nothing (λ at s. no_origins) i
+table_leads a rows keys l i not new =
+    let is : item_trie i ≡ fresh = ap item_trie new.is ∙ table_item_trie new.table ∙ new.empty in record {
+      same = no_last a rows keys l nothing not ∙ sym (ap in_table (course_fresh a rows keys l))
+          ∙ ap (course_by a rows keys l) (sym is);
+      keeps = λ at s. rw new.is (new_table_keeps _ new.table at s new.empty);
+    }
+
+array_leads : (rows : Rows) (l : ℕ) (i : items.Item) → IsNewArray i
+    → Leads true rows [] l nothing (λ at s. no_origins) i
+array_leads rows l i new =
+    let is : item_trie i ≡ array_of [] fresh =
+    ap item_trie new.is ∙ tables_trie new.array ∙ ap₂ array_of (ap (map table_trie) new.none) new.empty in record {
+      same = ap (course_by true rows [] l) (sym is);
+      keeps = λ at s. rw (is, new.is) (new_array_keeps new.array at s new.none new.empty);
+    }
+
+new_leads : (a : Bool) (rows : Rows) (keys : KeyTexts) (l : ℕ) (i : items.Item) → IsNew (is_last a keys) i
+    → Leads a rows keys l nothing (λ at s. no_origins) i
+new_leads true rows [] l i new = array_leads rows l i new
+new_leads a rows keys l i new = table_leads a rows keys l i refl new
+
+-- what stood at a key, and an item from which a header goes on
+pub lead : {a : Bool} {rows : Rows} {keys : KeyTexts} {l : ℕ} (is_new : Bool) {i : items.Item}
+    → (is_new ≡ true → IsNew (is_last a keys) i) → (is_new ≡ false → is_last a keys ≡ false)
+    → Leads a rows keys l (trie_before is_new (item_trie i)) (λ at s. origins_before is_new (item_origins i at s)) i
+lead {a} {rows} {keys} {l} true {i} new not = new_leads a rows keys l i (new refl)
+lead {a} {rows} {keys} {l} false {i} new not = record {
+  same = no_last a rows keys l (item_trie i) (not refl);
+  keeps = λ at s p aside. refl;
+}
+
+pub lead_more : {rows : Rows} {l : ℕ} {old i : items.Item} → HasOneMore old i
+    → Leads true rows [] l (item_trie old) (item_origins old) i
+lead_more {rows} {l} {old} {i} one =
+    let was : item_trie old ≡ array_of (map table_trie one.before.value.0.items) (table_trie one.before.value.1) =
+    ap item_trie one.was ∙ tables_trie one.before in
+    let is : item_trie i ≡ array_of (map table_trie one.after.value.0.items) fresh =
+    ap item_trie one.is ∙ tables_trie one.after ∙ ap (array_of (map table_trie one.after.value.0.items)) one.empty in
+    let more = ap (map table_trie) one.tables
+    ∙ map-append table_trie one.before.value.0.items (one.before.value.1 ∷ []) in
+    record {
+      same = ap (course_at true rows [] l) was ∙ course_next rows l _ _
+          ∙ ap (course_by true rows [] l) (sym (is ∙ ap (λ ts. array_of ts fresh) more));
+      keeps = λ at s. rw (is, one.was, one.is) (more_keeps one.before one.after at s one.tables one.empty);
+    }
+
+-- what is no array's last key
+pub not_last : (a : Bool) (keys : List code.Key) → 1 ≤ length keys → is_last a (header_texts keys) ≡ false
+not_last a [] some = absurd (omega (arith, some))
+not_last true (k ∷ keys) some = refl
+not_last false (k ∷ keys) some = refl
+
+-- what a header makes is no section
+pub no_new_section : (a : Bool) (i : items.Item) → IsNew a i → is_section i ≡ false
+no_new_section true i new = ap is_section new.is ∙ search (rules, items.the_lemmas)
+no_new_section false i new = ap is_section new.is ∙ search (rules, items.the_lemmas)
 
 -- A table is passed by a key.
 pub from_key : {gives : Child → Type 0} {a : Bool} {rows : Rows} {k : List ℕ} {level n : ℕ}
@@ -91,8 +161,8 @@ module _ {a : Bool} {rows : Rows} {keys : KeyTexts} {level n : ℕ} {r : Result 
         named = rw (ap (λ (c : Course). c.met) met) from.named;
         origins = rw way_is (IfOk-weaker r _ _
             (λ x grows. λ at s. rw (table_item_seen old at s, table_item_seen after at s)
-            (entry_grows (way a keys (table_trie old.value)) (rows_origins n rows) (table_origins old.value)
-            (table_origins now) _ _ (λ s p not. grows (s ∷ p) not))) from.origins);
+            (entry_keeps (way a keys (table_trie old.value)) _ (table_origins now) _
+            (λ s p not. grows (s ∷ p) not))) from.origins);
         marks = rw way_is (IfOk-weaker r _ _ (λ x marks. λ at s. rw (table_item_seen after at s)
             (table_marked n _ (table_within now) at s marks)) from.marks);
       }

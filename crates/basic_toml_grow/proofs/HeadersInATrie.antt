@@ -118,6 +118,10 @@ walk_fresh a rows keys = ap (λ (c : Course). c.entered) (course_fresh a rows ke
 pub steps_fresh : (a : Bool) (keys : KeyTexts) → steps_to a keys fresh ≡ steps_to a keys nothing
 steps_fresh a keys = ap (λ (c : Course). c.steps) (course_fresh a no_rows keys 0)
 
+pub met_fresh : (a : Bool) (rows : Rows) (keys : KeyTexts) (l : ℕ)
+    → keys_obstacle a rows keys l fresh ≡ keys_obstacle a rows keys l nothing
+met_fresh a rows keys l = ap (λ (c : Course). c.met) (course_fresh a rows keys l)
+
 -- a header's step at a key of a table
 pub course_through : (a : Bool) (rows : Rows) (k : List ℕ) (keys : KeyTexts) (l : ℕ) (p n d : Bool) (ts : Tries)
     → course a rows (k ∷ keys) l (made p n d ts)

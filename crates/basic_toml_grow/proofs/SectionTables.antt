@@ -1,28 +1,37 @@
--- The rows of a section, as they were read, and the table that they stand for.
-use Rattle.std.proofs.Common.{◌≡◌, ℕ, true, false, List, [], ◌∷◌, map, refl, ap, sym, ◌∙◌}
-use Rattle.std.proofs.Common.{◌≤◌, rules, Some, None, Ok, arith}
+-- The rows of a section, as they were read, and the table that they stand for; and the tables of an array that stand as
+-- they were read, and those with the entries that they stand for.
+use Rattle.std.proofs.Common.{◌≡◌, ℕ, true, false, List, [], ◌∷◌, map, refl, ap, sym, ◌∙◌, ◌≤◌, rules, Some, None, Ok}
+use Rattle.std.proofs.Common.{arith, ap₂, Vec, Box, Global}
+use Rattle.std.proofs.lemmas.Bool.{and_parts}
+use Rattle.std.proofs.lemmas.List.{map_push}
+use Rattle.std.proofs.lemmas.Simd.{map-map}
+use Rattle.std.proofs.lemmas.List.Folds.{list_all-append}
 use Rattle.basic_toml_value.specs.Nesting.{nesting_limit}
 use Rattle.basic_toml_grammar.specs.Standing as standings
 use Rattle.basic_toml_grammar.specs.Trie.{trie}
 use Rattle.basic_toml_read.specs.declared.section.Row.{Row, out-Row}
 use Rattle.basic_toml_read.specs.SectionView.{raw_of, rows_seen}
 use Rattle.basic_toml_plain.specs.Plain.{are_few_simple, plain_data, is_plain, are_all_plain}
-use Rattle.basic_toml_plain.specs.Tries.{by_keys, leaf, row_trie}
+use Rattle.basic_toml_plain.specs.Tries.{by_keys, leaf, row_trie, rows_trie}
+use Rattle.basic_toml_plain.specs.PlainTables.{SectionTable, SectionTables, have_few_simple}
 use Rattle.basic_toml_plain.proofs.SimpleKeys.{few_are_plain, few_are_simple, first_plain, others_plain}
 use Rattle.basic_toml_grow.specs.Takes.{TakesRows}
-use Rattle.basic_toml_grow.specs.Simple.{child_of, entries_of, section_table, with_entries}
-use Rattle.basic_toml_grow.specs.declared.item.Item.{the_lemmas}
+use Rattle.basic_toml_grow.specs.Simple.{child_of, entries_of, section_table, with_entries, table_of}
+use Rattle.basic_toml_grow.specs.declared.item.Item.{the_lemmas, Tables}
 use Rattle.basic_toml_grow.specs.declared.item.Item as items
 use Rattle.basic_toml_grow.specs.declared.item.Table.{Table, out-Table}
 use Rattle.basic_toml_grow.specs.Item.{item_trie, child_trie, table_trie}
-use Rattle.basic_toml_grow.specs.Origins.{no_origins, child_origins, item_origins, of_table}
-use Rattle.basic_toml_grow.specs.Origins.{rows_origins, table_within, value_origins, with_more}
+use Rattle.basic_toml_grow.specs.Origins.{no_origins, child_origins, item_origins, of_table, rows_origins, table_within}
+use Rattle.basic_toml_grow.specs.Origins.{value_origins, with_more, section_origins as origins_of_section}
 use Rattle.basic_toml_grow.proofs.ItemTries.{table_entries_trie}
 use Rattle.basic_toml_grow.proofs.KeysInATrie.{tries_of}
 use Rattle.basic_toml_grow.proofs.SimpleRows.{child_made, rows_in}
-use Rattle.basic_toml_grow.proofs.TablesOpened.{section_item_trie}
-use Rattle.basic_toml_grow.proofs.Origins.OriginsSeen.{no_keys_below, section_item_seen, table_seen}
+use Rattle.basic_toml_grow.proofs.TablesOpened.{section_item_trie, sections_trie, tables_trie}
+use Rattle.basic_toml_grow.proofs.Origins.OriginsSeen.{no_keys_below, section_item_seen, table_seen, sections_seen}
+use Rattle.basic_toml_grow.proofs.Origins.OriginsSeen.{tables_seen}
 use Rattle.basic_toml_grow.proofs.Origins.RowsPlaceOrigins.{within}
+use Rattle.basic_toml_grow.proofs.HeadersInATrie.{array_of}
+use Rattle.std.specs.List.{list_all}
 
 -- what a row stands for, as an entry
 pub row_child_trie : (s : ℕ) (r : Row) → is_plain (out-Row r).value 0 ≡ true
@@ -78,3 +87,56 @@ module _ (s : ℕ) (rows : List Row) where
   pub section_origins : are_few_simple 0 rows ≡ true → (at : ℕ)
       → item_origins (items.Section rows) at s ≡ of_table at s (table_within (section_table s rows))
   section_origins are at = section_item_seen rows at s ∙ ap (of_table at s) (sym (section_within are))
+
+abbrev few : SectionTable → Type 0
+few t = are_few_simple 0 t.1 ≡ true
+
+-- one of them
+pub trie_of : (t : SectionTable) → few t → table_trie (table_of t) ≡ rows_trie t.1
+trie_of t are = sym (section_trie t.0 t.1 are) ∙ section_item_trie t.1
+
+pub origins_of : (t : SectionTable) → few t → (at s : ℕ)
+    → of_table at s (table_within (table_of t)) ≡ origins_of_section at t
+origins_of t are at s = ap (of_table at s) (section_within t.0 t.1 are)
+
+-- and all
+module _ {A : Type 0} (f : Table → A) (g : SectionTable → A)
+    (same : (t : SectionTable) → few t → f (table_of t) ≡ g t) where
+  all_of : (ts : List SectionTable) → list_all (λ t. are_few_simple 0 t.1) ts ≡ true
+      → map f (map table_of ts) ≡ map g ts
+  all_of [] are = refl
+  all_of (t ∷ ts) are =
+      let parts = and_parts (are_few_simple 0 t.1) (list_all (λ t. are_few_simple 0 t.1) ts) are in
+      ap₂ (λ x xs. x ∷ xs) (same t parts.0) (all_of ts parts.1)
+
+module _ (b : Box SectionTables Global) (made : Box (Vec Table Global × Table) Global)
+    (earlier : made.value.0.items ≡ map table_of b.value.0) (latest : made.value.1 ≡ table_of b.value.1)
+    (are : have_few_simple b.value ≡ true) where
+  are_few : (list_all (λ (t : SectionTable). are_few_simple 0 t.1) b.value.0 ≡ true) × few b.value.1
+  are_few =
+      let parts = and_parts _ _
+      (sym (list_all-append (λ (t : SectionTable). are_few_simple 0 t.1) b.value.0 (b.value.1 ∷ [])) ∙ are) in
+      (parts.0, (and_parts _ _ parts.1).0)
+
+  pub unfolded_trie : item_trie (Tables made) ≡ item_trie (items.Sections b)
+  unfolded_trie =
+      tables_trie made
+      ∙ ap₂ array_of (ap (map table_trie) earlier ∙ all_of table_trie (λ t. rows_trie t.1) trie_of b.value.0 are_few.0)
+      (ap table_trie latest ∙ trie_of b.value.1 are_few.1)
+      ∙ sym (sections_trie b)
+
+  pub unfolded_origins : (at s : ℕ) → item_origins (Tables made) at s ≡ item_origins (items.Sections b) at s
+  unfolded_origins at s =
+      rw (
+        tables_seen made at s,
+        sections_seen b at s,
+        earlier,
+        latest,
+        map_push (of_table at s) (map table_within (map table_of b.value.0)) (table_within (table_of b.value.1)),
+        map-map (of_table at s) table_within (map table_of b.value.0),
+        all_of (λ t. of_table at s (table_within t)) (origins_of_section at) (λ t are. origins_of t are at s) b.value.0
+            are_few.0,
+        origins_of b.value.1 are_few.1 at s,
+        section_within b.value.1.0 b.value.1.1 are_few.1,
+      )
+      refl

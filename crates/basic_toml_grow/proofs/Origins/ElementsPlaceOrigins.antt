@@ -14,7 +14,7 @@ use Rattle.basic_toml_grow.specs.Origins.{Within, of_table, item_origins, table_
 use Rattle.basic_toml_grow.specs.Ways.{GrowsAlong, IsMarked, MarksTable, MarksWay}
 use Rattle.basic_toml_grow.proofs.HeadersInATrie.{fresh}
 use Rattle.basic_toml_grow.proofs.Origins.OriginsSeen.{tables_seen, table_origins, fresh_within, or_none}
-use Rattle.basic_toml_grow.proofs.Origins.HeadersPlaceOrigins.{Keeps, entry_grows, entry_keeps}
+use Rattle.basic_toml_grow.proofs.Origins.HeadersPlaceOrigins.{Keeps, entry_keeps}
 
 -- a table that stands at a key
 pub table_marked : (n : ℕ) (w : Path) (t : Within) (at s : ℕ) → MarksTable n w t → MarksWay n w (of_table at s t)
@@ -111,7 +111,7 @@ latest_grows old after w rows same grows at s =
     let last = of_table at s (table_within old.value.1) in
     let now = of_table at s (table_within after.value.1) in
     rw (array_below old at s, array_below after at s, same, as_many at s old.value.0.items)
-    (entry_grows (number (length xs) ∷ w) rows (at_numbers (xs ++ last ∷ [])) (at_numbers (xs ++ now ∷ [])) _ _
+    (entry_keeps (number (length xs) ∷ w) _ (at_numbers (xs ++ now ∷ [])) _
     (λ r q not. numbers_grow xs (Some last) now rows w (λ r q not. grows (r ∷ q) not) (r ∷ q) not))
 
 pub latest_marks : (old after : Box (Vec Table Global × Table) Global) (n : ℕ) (w : Path) → after.value.0 ≡ old.value.0

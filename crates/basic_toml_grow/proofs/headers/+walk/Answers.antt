@@ -12,9 +12,9 @@ use Rattle.basic_toml_plain.proofs.WhatIsLeft.{nothing_left}
 use Rattle.basic_toml_grow.specs.declared.item.Item as items
 use Rattle.basic_toml_grow.specs.declared.item.Item.TheViews.{out-Item}
 use Rattle.basic_toml_grow.specs.Headers.{is_last}
-use Rattle.basic_toml_grow.proofs.HeadersLead.{lead_more, not_last}
 use Rattle.basic_toml_grow.proofs.HeadersGoOn.{LeadsOn, from_deep_value, from_item, from_key, from_latest, from_none}
-use Rattle.basic_toml_grow.proofs.HeadersGoOn.{from_table, from_value, leads_holding, leads_same, new_stays}
+use Rattle.basic_toml_grow.proofs.HeadersGoOn.{from_table, from_value, lead_more, leads_holding, leads_same, new_stays}
+use Rattle.basic_toml_grow.proofs.HeadersGoOn.{not_last}
 use Rattle.basic_toml_grow.proofs.RowsKept.{CanStay, back_view, can_stay, stay_at_key, stay_in_first, stay_in_next}
 use Rattle.basic_toml_grow.proofs.headers.+walk.Goals as goal
 use Rattle.basic_toml_grow.proofs.headers.+walk.Goals.{enter_at-else-is_array, enter_element-In_ok-place}

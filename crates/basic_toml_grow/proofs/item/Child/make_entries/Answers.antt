@@ -9,9 +9,8 @@ use Rattle.basic_toml_grow.specs.Item.{item_trie, table_trie}
 use Rattle.basic_toml_grow.specs.Origins.{item_origins, of_table, table_within}
 use Rattle.basic_toml_grow.specs.Simple.{table_of}
 use Rattle.basic_toml_grow.proofs.ItemTries.{child_item_trie, table_child_trie}
-use Rattle.basic_toml_grow.proofs.SectionTables.{section_origins, section_trie}
+use Rattle.basic_toml_grow.proofs.SectionTables.{section_origins, section_trie, unfolded_origins, unfolded_trie}
 use Rattle.basic_toml_grow.proofs.HeadersEntered.{holding_trie}
-use Rattle.basic_toml_grow.proofs.SectionsUnfolded.{unfolded_origins, unfolded_trie}
 use Rattle.basic_toml_grow.proofs.Origins.HeadersPlaceOrigins.{holding_origins}
 use Rattle.basic_toml_grow.proofs.Origins.OriginsSeen.{child_seen}
 use Rattle.basic_toml_grow.proofs.Origins.RowsPlaceOrigins.{child_of_table}
