@@ -9,7 +9,7 @@ use Rattle.basic_toml_grammar.specs.Steps.{key}
 use Rattle.basic_toml_plain.specs.Tries.{tree_data, leaf, by_keys}
 use Rattle.basic_toml_grow.specs.declared.item.Item.{the_lemmas, Tables}
 use Rattle.basic_toml_grow.specs.declared.item.Item as items
-use Rattle.basic_toml_grow.specs.declared.item.Item.TheOpen.{Item-F, Table-F}
+use Rattle.basic_toml_grow.specs.declared.item.Item.TheOpen.{Item-F}
 use Rattle.basic_toml_grow.specs.declared.item.Item.TheViews.{out-Item, roll-Child, roll-Table}
 use Rattle.basic_toml_grow.specs.declared.item.Child.{Child, out-Child}
 use Rattle.basic_toml_grow.specs.declared.item.Table.{Table, out-Table}
@@ -28,7 +28,6 @@ use Rattle.basic_toml_grow.proofs.HeadersInATrie.{made, Course, course_of, same_
 use Rattle.basic_toml_grow.proofs.HeadersInATrie.{course, course_at, course_through}
 use Rattle.basic_toml_grow.proofs.LatestInATrie.{mapped_twice}
 use Rattle.basic_toml_grow.proofs.ObstaclesPassOn.{behind_low}
-use Rattle.basic_toml_grow.proofs.TablesOpened.{numbered_fields}
 
 -- what is none of these is a value, which bars a header
 pub other_is_leaf : (i : items.Item) → is_section i ≡ false → ((t : Box Table Global) → i ≡ items.Table t → ⊥)
@@ -45,10 +44,9 @@ other_is_leaf i no_section no_table no_tables = (tree_data (item_trie i), go (ou
 
 -- a child with another item
 abbrev pub holding : Child → items.Item → Child
-holding c i = roll-Child (record { start = (out-Child c).start; section = (out-Child c).section; item = i })
+holding c i = roll-Child (record (out-Child c) { item = i })
 
-pub out_holding : (c : Child) (i : items.Item) → out-Child (holding c i)
-    ≡ record { start = (out-Child c).start; section = (out-Child c).section; item = i }
+pub out_holding : (c : Child) (i : items.Item) → out-Child (holding c i) ≡ record (out-Child c) { item = i }
 out_holding c i = search (rules, the_lemmas)
 
 pub holding_trie : (c : Child) (i : items.Item) → child_trie (holding c i) ≡ item_trie i
@@ -61,25 +59,14 @@ pub record Passes (gives : Child → Type 0) (k : List ℕ) (old : Table) (p : P
   pub entries : List (List ℕ × Child)
   pub entered : FindsOrAdds gives k (out-Table old).entries entries p
   pub stands : slice_get (values_of entries) p.position ≡ Some there
-  pub is : out-Table new ≡ record {
-    passed = true;
-    named = (out-Table old).named;
-    dotted = (out-Table old).dotted;
-    section = n;
-    entries = with_value entries p.position now;
-  }
+  pub is : out-Table new
+      ≡ record (out-Table old) { passed = true; section = n; entries = with_value entries p.position now }
 
 -- a table as the code changes it: a header passes it, and it gets the number of a section
-abbrev pub passed_fields : Table → Table-F items.Item Child Table
-passed_fields t =
-    let o = out-Table t in
-    record { passed = true; named = o.named; dotted = o.dotted; section = o.section; entries = o.entries }
-
 abbrev pub passed_table : Table → List (List ℕ × Child) → ℕ → Table
-passed_table t new n = roll-Table (numbered_fields n (roll-Table (passed_fields (with_entries t new))))
-
-passed_entries : (t : Table) (new : List (List ℕ × Child)) (n : ℕ) → (out-Table (passed_table t new n)).entries ≡ new
-passed_entries t new n = search (rules, the_lemmas)
+passed_table t new n =
+    let passed = roll-Table (record (out-Table (with_entries t new)) { passed = true }) in
+    roll-Table (record (out-Table passed) { section = n })
 
 pub passes : {gives : Child → Type 0} {k : List ℕ} {new : List (List ℕ × Child)} {p : Place} {there : Child} (t : Table)
     (n : ℕ) (now : Child) → FindsOrAdds gives k (out-Table t).entries new p
@@ -89,7 +76,7 @@ pub passes : {gives : Child → Type 0} {k : List ℕ} {new : List (List ℕ × 
 passes {new = new} {p = p} t n now entered stands = record {
   entries = new;
   entered = entered;
-  stands = sym (ap (λ es. slice_get (values_of es) p.position) (passed_entries t new n)) ∙ stands;
+  stands = search (rules, the_lemmas, stands);
   is = search (rules, the_lemmas);
 }
 

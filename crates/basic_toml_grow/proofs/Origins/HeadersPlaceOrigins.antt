@@ -1,6 +1,6 @@
 -- The way of a header through the tree: what its rows bring comes at the way's end, and headers made what stands on it,
 -- of which the section of this one is the latest that leads there.
-use Rattle.std.proofs.Common.{◌≡◌, ℕ, Bool, false, List, [], ◌∷◌, refl, ap, sym, ◌∙◌, rules, Box, Global, true}
+use Rattle.std.proofs.Common.{◌≡◌, ℕ, Bool, false, List, [], ◌∷◌, refl, ap, sym, ◌∙◌, Box, Global, true}
 use Rattle.std.specs.Prelude.{◌||◌}
 use Rattle.std.specs.Option.{option_or}
 use Rattle.std.specs.Str.{bytes_eq}
@@ -17,24 +17,15 @@ use Rattle.basic_toml_grow.specs.declared.item.Table.{Table}
 use Rattle.basic_toml_grow.specs.Item.{table_trie}
 use Rattle.basic_toml_value.specs.declared.pairs.growth.Place.{Place}
 use Rattle.basic_toml_grow.specs.Origins.{Origin, Origins, child_origins, entry, item_origins, table_within, no_origins}
-use Rattle.basic_toml_grow.specs.Origins.{origins_before, with_more, or_else, along}
+use Rattle.basic_toml_grow.specs.Origins.{origins_before, along}
 use Rattle.basic_toml_grow.specs.Ways.{way, GrowsAlong, IsMarked, MarksWay, MarksTable}
 use Rattle.basic_toml_grow.proofs.HeadersInATrie.{fresh, Course, course_fresh}
 use Rattle.basic_toml_grow.proofs.HeadersEntered.{holding, out_holding, Passes}
-use Rattle.basic_toml_grow.proofs.TablesOpened.{opened_table}
-use Rattle.basic_toml_grow.proofs.Origins.OriginsSeen.{child_seen, below_seen, table_item_seen, table_origins}
+use Rattle.basic_toml_grow.proofs.Origins.OriginsSeen.{child_seen, table_item_seen, table_origins}
 use Rattle.basic_toml_grow.proofs.Origins.OriginsSeen.{fresh_within, grows_at, made_seen, section_seen, stands_now}
 
 pub way_fresh : (a : Bool) (keys : KeyTexts) → way a keys fresh ≡ way a keys nothing
 way_fresh a keys = ap (λ (c : Course). c.way) (course_fresh a no_rows keys 0)
-
--- the table that is named, and the rows that are put into it
-pub opened : (t : Table) (n : ℕ) (rows : Origins) (u : Table)
-    → table_within u ≡ with_more (table_within (opened_table t n)) rows
-    → table_origins u ≡ or_else (table_origins t) rows
-opened t n rows u comes =
-    ap (λ w. w.below) comes
-    ∙ ap (λ f. or_else f rows) (below_seen (opened_table t n) ∙ search (rules, the_lemmas) ∙ sym (below_seen t))
 
 -- a child with another item
 pub holding_origins : (c : Child) (i : items.Item)
