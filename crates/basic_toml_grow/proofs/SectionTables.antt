@@ -1,10 +1,8 @@
 -- The rows of a section, as they were read, and the table that they stand for; and the tables of an array that stand as
 -- they were read, and those with the entries that they stand for.
 use Rattle.std.proofs.Common.{◌≡◌, ℕ, true, false, List, [], ◌∷◌, map, refl, ap, sym, ◌∙◌, ◌≤◌, rules, Some, None, Ok}
-use Rattle.std.proofs.Common.{arith, ap₂, Vec, Box, Global}
+use Rattle.std.proofs.Common.{arith, Vec, Box, Global}
 use Rattle.std.proofs.lemmas.Bool.{and_parts}
-use Rattle.std.proofs.lemmas.List.{map_push}
-use Rattle.std.proofs.lemmas.Simd.{map-map}
 use Rattle.std.proofs.lemmas.List.Folds.{list_all-append}
 use Rattle.basic_toml_value.specs.Nesting.{nesting_limit}
 use Rattle.basic_toml_grammar.specs.Standing as standings
@@ -21,16 +19,15 @@ use Rattle.basic_toml_grow.specs.declared.item.Item.{the_lemmas, Tables}
 use Rattle.basic_toml_grow.specs.declared.item.Item as items
 use Rattle.basic_toml_grow.specs.declared.item.Table.{Table, out-Table}
 use Rattle.basic_toml_grow.specs.Item.{item_trie, child_trie, table_trie}
-use Rattle.basic_toml_grow.specs.Origins.{no_origins, child_origins, item_origins, of_table, rows_origins, table_within}
-use Rattle.basic_toml_grow.specs.Origins.{value_origins, with_more, section_origins as origins_of_section}
+use Rattle.basic_toml_grow.specs.Origins.{child_origins, item_origins, of_table, rows_origins, table_within}
+use Rattle.basic_toml_grow.specs.Origins.{at_keys, value_origins, section_origins as origins_of_section}
 use Rattle.basic_toml_grow.proofs.ItemTries.{table_entries_trie}
 use Rattle.basic_toml_grow.proofs.KeysInATrie.{tries_of}
 use Rattle.basic_toml_grow.proofs.SimpleRows.{child_made, rows_in}
 use Rattle.basic_toml_grow.proofs.TablesOpened.{section_item_trie, sections_trie, tables_trie}
 use Rattle.basic_toml_grow.proofs.Origins.OriginsSeen.{no_keys_below, section_item_seen, table_seen, sections_seen}
-use Rattle.basic_toml_grow.proofs.Origins.OriginsSeen.{tables_seen}
 use Rattle.basic_toml_grow.proofs.Origins.RowsPlaceOrigins.{within}
-use Rattle.basic_toml_grow.proofs.HeadersInATrie.{array_of}
+use Rattle.basic_toml_grow.proofs.Origins.ElementsPlaceOrigins.{array_below}
 use Rattle.std.specs.List.{list_all}
 
 -- what a row stands for, as an entry
@@ -49,7 +46,11 @@ rows_tries s [] plain = refl
 rows_tries s (r ∷ rs) plain =
     rw (row_child_trie s r (first_plain 0 r rs plain), rows_tries s rs (others_plain 0 r rs plain)) refl
 
--- the parts of the table that rows stand for
+-- the table without rows
+abbrev pub bare : ℕ → Table
+bare s = section_table s []
+
+-- the parts of the table that rows stand for; it takes the rows, and where what stands in it then comes from
 module _ (s : ℕ) (rows : List Row) where
   pub entries_are : (out-Table (section_table s rows)).entries ≡ entries_of s rows
   entries_are = search (rules, the_lemmas)
@@ -62,12 +63,6 @@ module _ (s : ℕ) (rows : List Row) where
   section_trie are =
       rw (section_item_trie rows, rows_tries s rows (few_are_plain 0 rows are), section_table_trie) refl
 
--- the table without rows
-abbrev pub bare : ℕ → Table
-bare s = section_table s []
-
--- It takes the rows, and where what stands in the table then comes from.
-module _ (s : ℕ) (rows : List Row) where
   pub section_taken : (level : ℕ) → level ≤ nesting_limit → are_few_simple level rows ≡ true
       → TakesRows (rows_seen [] rows) s level (bare s) (section_table s rows) (Ok tt)
   section_taken level low are =
@@ -75,68 +70,51 @@ module _ (s : ℕ) (rows : List Row) where
       let same : with_entries (bare s) (entries_of s rows) ≡ section_table s rows = search (rules, the_lemmas) in
       rw same at (rows_in s level low (bare s) none rows (few_are_simple level rows are))
 
-  bare_within : table_within (bare s) ≡ within true s no_origins
-  bare_within = table_seen (bare s) ∙ search (rules, the_lemmas) ∙ ap (within true s) no_keys_below
-
   pub section_within : are_few_simple 0 rows ≡ true
       → table_within (section_table s rows) ≡ within true s (rows_origins s (rows_seen [] rows))
   section_within are =
-      (section_taken 0 (omega arith) are).origins
-      ∙ ap (λ w. with_more w (rows_origins s (rows_seen [] rows))) bare_within
+      let none : table_within (bare s) ≡ within true s (at_keys []) =
+      table_seen (bare s) ∙ search (rules, the_lemmas) in
+      (section_taken 0 (omega arith) are).origins ∙ rw (none, no_keys_below) refl
 
   pub section_origins : are_few_simple 0 rows ≡ true → (at : ℕ)
       → item_origins (items.Section rows) at s ≡ of_table at s (table_within (section_table s rows))
   section_origins are at = section_item_seen rows at s ∙ ap (of_table at s) (sym (section_within are))
 
-abbrev few : SectionTable → Type 0
-few t = are_few_simple 0 t.1 ≡ true
+-- the tables that are made of an array of sections, whose rows are few and simple
+pub record AreMade (b : Box SectionTables Global) (made : Box (Vec Table Global × Table) Global) : Type 0 where
+  pub earlier : made.value.0.items ≡ map table_of b.value.0
+  pub latest : made.value.1 ≡ table_of b.value.1
+  pub simple : have_few_simple b.value ≡ true
 
--- one of them
-pub trie_of : (t : SectionTable) → few t → table_trie (table_of t) ≡ rows_trie t.1
-trie_of t are = sym (section_trie t.0 t.1 are) ∙ section_item_trie t.1
-
-pub origins_of : (t : SectionTable) → few t → (at s : ℕ)
-    → of_table at s (table_within (table_of t)) ≡ origins_of_section at t
-origins_of t are at s = ap (of_table at s) (section_within t.0 t.1 are)
-
--- and all
+-- what each such table tells as its section does, all of them tell
 module _ {A : Type 0} (f : Table → A) (g : SectionTable → A)
-    (same : (t : SectionTable) → few t → f (table_of t) ≡ g t) where
-  all_of : (ts : List SectionTable) → list_all (λ t. are_few_simple 0 t.1) ts ≡ true
+    (same : (t : SectionTable) → are_few_simple 0 t.1 ≡ true → f (table_of t) ≡ g t) where
+  all_tell : (ts : List SectionTable) → list_all (λ t. are_few_simple 0 t.1) ts ≡ true
       → map f (map table_of ts) ≡ map g ts
-  all_of [] are = refl
-  all_of (t ∷ ts) are =
-      let parts = and_parts (are_few_simple 0 t.1) (list_all (λ t. are_few_simple 0 t.1) ts) are in
-      ap₂ (λ x xs. x ∷ xs) (same t parts.0) (all_of ts parts.1)
+  all_tell [] are = refl
+  all_tell (t ∷ ts) are =
+      let parts = and_parts _ _ are in
+      rw (same t parts.0, all_tell ts parts.1) refl
 
-module _ (b : Box SectionTables Global) (made : Box (Vec Table Global × Table) Global)
-    (earlier : made.value.0.items ≡ map table_of b.value.0) (latest : made.value.1 ≡ table_of b.value.1)
-    (are : have_few_simple b.value ≡ true) where
-  are_few : (list_all (λ (t : SectionTable). are_few_simple 0 t.1) b.value.0 ≡ true) × few b.value.1
-  are_few =
-      let parts = and_parts _ _
-      (sym (list_all-append (λ (t : SectionTable). are_few_simple 0 t.1) b.value.0 (b.value.1 ∷ [])) ∙ are) in
-      (parts.0, (and_parts _ _ parts.1).0)
+  made_tell : (b : Box SectionTables Global) (made : Box (Vec Table Global × Table) Global) → AreMade b made
+      → (map f made.value.0.items ≡ map g b.value.0) × (f made.value.1 ≡ g b.value.1)
+  made_tell b made are =
+      let parts = and_parts _ _ (rw list_all-append at are.simple) in
+      rw (are.earlier, are.latest) (all_tell b.value.0 parts.0, same b.value.1 (and_parts _ _ parts.1).0)
 
-  pub unfolded_trie : item_trie (Tables made) ≡ item_trie (items.Sections b)
-  unfolded_trie =
-      tables_trie made
-      ∙ ap₂ array_of (ap (map table_trie) earlier ∙ all_of table_trie (λ t. rows_trie t.1) trie_of b.value.0 are_few.0)
-      (ap table_trie latest ∙ trie_of b.value.1 are_few.1)
-      ∙ sym (sections_trie b)
+pub unfolded_trie : {b : Box SectionTables Global} {made : Box (Vec Table Global × Table) Global} → AreMade b made
+    → item_trie (Tables made) ≡ item_trie (items.Sections b)
+unfolded_trie {b} {made} are =
+    let all = made_tell table_trie (λ t. rows_trie t.1)
+    (λ t few. sym (section_trie t.0 t.1 few) ∙ section_item_trie t.1) b made are in
+    rw (tables_trie made, sections_trie b, all.0, all.1) refl
 
-  pub unfolded_origins : (at s : ℕ) → item_origins (Tables made) at s ≡ item_origins (items.Sections b) at s
-  unfolded_origins at s =
-      rw (
-        tables_seen made at s,
-        sections_seen b at s,
-        earlier,
-        latest,
-        map_push (of_table at s) (map table_within (map table_of b.value.0)) (table_within (table_of b.value.1)),
-        map-map (of_table at s) table_within (map table_of b.value.0),
-        all_of (λ t. of_table at s (table_within t)) (origins_of_section at) (λ t are. origins_of t are at s) b.value.0
-            are_few.0,
-        origins_of b.value.1 are_few.1 at s,
-        section_within b.value.1.0 b.value.1.1 are_few.1,
-      )
-      refl
+pub unfolded_origins : {b : Box SectionTables Global} {made : Box (Vec Table Global × Table) Global} → AreMade b made
+    → (at s : ℕ) → item_origins (Tables made) at s ≡ item_origins (items.Sections b) at s
+unfolded_origins {b} {made} are at s =
+    let number = made_tell (λ t. (table_within t).section) (λ t. t.0)
+    (λ t few. ap (λ w. w.section) (section_within t.0 t.1 few)) b made are in
+    let all = made_tell (λ t. of_table at s (table_within t)) (origins_of_section at)
+    (λ t few. ap (of_table at s) (section_within t.0 t.1 few)) b made are in
+    rw (array_below made at s, sections_seen b at s, all.0, all.1, number.1) refl

@@ -4,6 +4,7 @@ use Rattle.std.proofs.Common.{◌∙◌, map, arith, length, slice_get, Vec, Box
 use Rattle.std.specs.Prelude.{if◌then◌else◌}
 use Prim.Native.Nat.compare
 use Rattle.std.proofs.lemmas.Bool.{and_parts, false≢true}
+use Rattle.std.proofs.lemmas.Simd.{map-map}
 use Rattle.std.proofs.lemmas.List.{length-map, map_push}
 use Rattle.basic_toml_grammar.specs.Steps.{Step, key, number, Path, begins}
 use Rattle.basic_toml_grow.specs.declared.item.Item.{Tables}
@@ -89,17 +90,15 @@ numbers_marked n w xs x o here marks (number i ∷ q) on =
 
 -- the elements of an array of tables
 abbrev pub elements_of : ℕ → ℕ → List Table → List Origins
-elements_of at s ts = map (of_table at s) (map table_within ts)
+elements_of at s ts = map (λ t. of_table at s (table_within t)) ts
 
 pub as_many : (at s : ℕ) (ts : List Table) → length (map table_trie ts) ≡ length (elements_of at s ts)
-as_many at s ts =
-    length-map ts table_trie ∙ sym (length-map (map table_within ts) (of_table at s) ∙ length-map ts table_within)
+as_many at s ts = length-map ts table_trie ∙ sym (length-map ts (λ t. of_table at s (table_within t)))
 
 pub array_below : (b : Box (Vec Table Global × Table) Global) (at s : ℕ) → item_origins (Tables b) at s
     ≡ entry (array_origin at (table_within b.value.1).section)
     (at_numbers (elements_of at s b.value.0.items ++ of_table at s (table_within b.value.1) ∷ []))
-array_below b at s =
-    rw (tables_seen b at s, map_push (of_table at s) (map table_within b.value.0.items) (table_within b.value.1)) refl
+array_below b at s = rw (tables_seen b at s, map_push, map-map) refl
 
 -- on into the latest element
 pub latest_grows : (old after : Box (Vec Table Global × Table) Global) (w : Path) (rows : Origins)
@@ -137,7 +136,7 @@ pub more_keeps : (old after : Box (Vec Table Global × Table) Global) (at s : �
 more_keeps old after at s tables empty =
     let xs = elements_of at s after.value.0.items in
     let was : elements_of at s old.value.0.items ++ of_table at s (table_within old.value.1) ∷ [] ≡ xs =
-    sym (rw (tables, map_push table_within old.value.0.items old.value.1, map_push (of_table at s)) refl) in
+    sym (rw (tables, map_push) refl) in
     rw (
       array_below old at s,
       array_below after at s,
