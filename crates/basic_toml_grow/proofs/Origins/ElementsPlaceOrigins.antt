@@ -27,12 +27,6 @@ abbrev pub last_of : Option Origins → List Origins
 last_of None = []
 last_of (Some x) = x ∷ []
 
-suc_other : (m : ℕ) → nat_eq (suc m) zero ≡ false
-suc_other m = grind arith
-
-both_suc : (m n : ℕ) → nat_eq (suc m) (suc n) ≡ nat_eq m n
-both_suc m n = rw compare.suc-suc refl
-
 -- the elements before the last one are as they were; the last has grown, or is new
 pub numbers_grow : (xs : List Origins) (last : Option Origins) (now rows : Origins) (w : Path)
     → ((s : Step) (q : Path) → begins (s ∷ q) w ≡ false
@@ -42,14 +36,11 @@ numbers_grow xs last now rows w grows [] not = absurd (false≢true (sym not))
 numbers_grow xs last now rows w grows (key k ∷ q) not = refl
 numbers_grow [] last now rows w grows (number zero ∷ []) not = absurd (false≢true (sym not))
 numbers_grow [] last now rows w grows (number zero ∷ s ∷ q) not = grows s q not
-numbers_grow [] None now rows w grows (number (suc m) ∷ q) not = rw (suc_other m) refl
-numbers_grow [] (Some x) now rows w grows (number (suc m) ∷ q) not = rw (suc_other m) refl
-numbers_grow (y ∷ xs) last now rows w grows (number zero ∷ q) not =
-    let other : nat_eq zero (suc (length xs)) ≡ false = grind arith in
-    rw other (sym (or_none (y q)))
+numbers_grow [] None now rows w grows (number (suc m) ∷ q) not = rw compare.suc-zero refl
+numbers_grow [] (Some x) now rows w grows (number (suc m) ∷ q) not = rw compare.suc-zero refl
+numbers_grow (y ∷ xs) last now rows w grows (number zero ∷ q) not = rw compare.zero-suc (sym (or_none (y q)))
 numbers_grow (y ∷ xs) last now rows w grows (number (suc m) ∷ q) not =
-    rw (both_suc m (length xs))
-    (numbers_grow xs last now rows w grows (number m ∷ q) (rw (both_suc m (length xs)) at not))
+    rw compare.suc-suc (numbers_grow xs last now rows w grows (number m ∷ q) (rw compare.suc-suc at not))
 
 -- an element from which nothing comes yet, after others
 numbers_keep : (xs : List Origins) (o : Origin)
@@ -61,7 +52,7 @@ numbers_keep [] o (number zero ∷ s ∷ q) not = refl
 numbers_keep [] o (number (suc m) ∷ q) not = refl
 numbers_keep (y ∷ xs) o (number zero ∷ q) not = refl
 numbers_keep (y ∷ xs) o (number (suc m) ∷ q) not =
-    numbers_keep xs o (number m ∷ q) (rw (both_suc m (length xs)) at not)
+    numbers_keep xs o (number m ∷ q) (rw compare.suc-suc at not)
 
 added_keeps : (xs : List Origins) (before : Origins) (o q : Origin)
     → ((s : Step) (p : Path) → at_numbers xs (s ∷ p) ≡ before (s ∷ p))

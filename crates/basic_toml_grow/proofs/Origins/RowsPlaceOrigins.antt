@@ -44,8 +44,7 @@ module _ {gives : Child → Type 0} (before : Table) (k : List ℕ) (there child
       let put = with_value new p.position child in
       ap table_within same
       ∙ within_is (table_within (with_entries before put)) (with_more (table_within before) (beyond (key k) below))
-      (made_seen (with_entries before put) ∙ search (rules, the_lemmas) ∙ sym (made_seen before))
-      (section_seen (with_entries before put) ∙ search (rules, the_lemmas) ∙ sym (section_seen before))
+      (search (rules, the_lemmas)) (search (rules, the_lemmas))
       (λ q. grows_at before (with_entries before put) there child k new p e stands (entries_with before put) below q
       (λ r is. ap (λ f. f r) comes))
 
@@ -59,15 +58,18 @@ origins_added before k there new p e stands is_new =
     (ap (λ b. or_else (origins_before b (child_origins there)) (child_origins there)) (sym is_new))
     (with_entries before new) (ap (with_entries before) (sym (with_same new p.position there stands)))
 
--- what comes below a new table
+-- an origin here, and what comes below it beside what was there; and what comes below a new table
+or_entry : (o u : Origin) (f g : Origins) → entry o (or_else f g) ≡ or_else (entry o f) (entry u g)
+or_entry o u f g = fun_ext go
+  where
+    go : (p : Path) → entry o (or_else f g) p ≡ or_else (entry o f) (entry u g) p
+    go [] = refl
+    go (s ∷ p) = refl
+
 pub comes_below : (is_new : Bool) (o : Origin) (f g row : Origins) → (is_new ≡ true → f ≡ entry o no_origins)
     → g ≡ or_else f (entry o row) → g ≡ or_else (origins_before is_new f) (entry o row)
 comes_below true o f g row fresh comes =
-    comes ∙ ap (λ f. or_else f (entry o row)) (fresh refl) ∙ fun_ext here
-  where
-    here : (p : Path) → or_else (entry o no_origins) (entry o row) p ≡ or_else no_origins (entry o row) p
-    here [] = refl
-    here (s ∷ p) = refl
+    comes ∙ ap (λ f. or_else f (entry o row)) (fresh refl) ∙ sym (or_entry o o no_origins row)
 comes_below false o f g row fresh comes = comes
 
 -- a table that is now dotted
@@ -81,13 +83,6 @@ pub child_of_table : (t : Box Table Global) (at s : ℕ)
 child_of_table t at s = search (rules, the_lemmas)
 
 -- dots that extend a table: what the row brings comes beside what was there
-or_entry : (o u : Origin) (f g : Origins) → entry o (or_else f g) ≡ or_else (entry o f) (entry u g)
-or_entry o u f g = fun_ext go
-  where
-    go : (p : Path) → entry o (or_else f g) p ≡ or_else (entry o f) (entry u g) p
-    go [] = refl
-    go (s ∷ p) = refl
-
 pub table_extended : (there : Child) (old : Box Table Global) (u now : Table) (row : Origins) (o : Origin)
     → (out-Child there).item ≡ items.Table old → table_within u ≡ table_within old.value
     → table_within now ≡ with_more (table_within u) row
