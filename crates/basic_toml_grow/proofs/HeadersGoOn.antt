@@ -29,7 +29,7 @@ use Rattle.basic_toml_grow.specs.Clash.{NamesObstacle, in_the_way}
 use Rattle.basic_toml_grow.specs.Item.{child_trie, item_trie, table_trie, trie_before, is_section}
 use Rattle.basic_toml_grow.specs.Simple.{with_entries}
 use Rattle.basic_toml_grow.specs.Headers.{IsKeptOut, IsNew, entered_at, highest, is_last, IsNewTable, IsNewArray}
-use Rattle.basic_toml_grow.specs.Headers.{HasOneMore}
+use Rattle.basic_toml_grow.specs.Headers.{HasOneMore, steps_by}
 use Rattle.basic_toml_grow.specs.Obstacles.{element_obstacle}
 use Rattle.basic_toml_grow.specs.Origins.{child_origins, item_origins, origins_before, rows_origins, table_within}
 use Rattle.basic_toml_grow.specs.Origins.{Origins, no_origins}
@@ -49,55 +49,57 @@ use Rattle.basic_toml_grow.proofs.Origins.HeadersPlaceOrigins.{Keeps, new_table_
 use Rattle.basic_toml_grow.proofs.Origins.ElementsPlaceOrigins.{latest_grows, latest_marks, table_marked}
 use Rattle.basic_toml_grow.proofs.Origins.ElementsPlaceOrigins.{new_array_keeps, more_keeps}
 
-pub record Leads (a : Bool) (rows : Rows) (keys : KeyTexts) (l : ℕ) (before : Trie) (came : ℕ → ℕ → Origins)
-    (i : items.Item) : Type 0 where
-  pub same : course_at a rows keys l before ≡ course_by a rows keys l (item_trie i)
-  pub keeps : (at s : ℕ) → Keeps (way_by a keys (item_trie i)) (came at s) (item_origins i at s)
+-- A child leads on to the item of another, which holds it where the first held its own: what goes on from that item is
+-- what goes on from what stood at the key.
+pub record Leads (a : Bool) (rows : Rows) (keys : KeyTexts) (l : ℕ) (is_new : Bool) (mid there : Child) : Type 0 where
+  pub item : Item
+  pub holds : there ≡ holding mid item
+  pub same : course_at a rows keys l (trie_before is_new (item_trie (out-Child mid).item))
+      ≡ course_by a rows keys l (item_trie item)
+  pub keeps : (at s : ℕ) → Keeps (way_by a keys (item_trie item))
+      (origins_before is_new (item_origins (out-Child mid).item at s)) (item_origins item at s)
 
--- a new table, and an array of one new table
-table_leads : (a : Bool) (rows : Rows) (keys : KeyTexts) (l : ℕ) (i : items.Item) → is_last a keys ≡ false
-    → IsNewTable i → Leads a rows keys l nothing (λ at s. no_origins) i
-table_leads a rows keys l i not new =
-    let is : item_trie i ≡ fresh = ap item_trie new.is ∙ table_item_trie new.table ∙ new.empty in record {
-      same = no_last a rows keys l nothing not ∙ sym (ap in_table (course_fresh a rows keys l))
-          ∙ ap (course_by a rows keys l) (sym is);
-      keeps = λ at s. rw new.is (new_table_keeps _ new.table at s new.empty);
-    }
-
-array_leads : (rows : Rows) (l : ℕ) (i : items.Item) → IsNewArray i
-    → Leads true rows [] l nothing (λ at s. no_origins) i
-array_leads rows l i new =
-    let is : item_trie i ≡ array_of [] fresh =
-    ap item_trie new.is ∙ tables_trie new.array ∙ ap₂ array_of (ap (map table_trie) new.none) new.empty in record {
-      same = ap (course_by true rows [] l) (sym is);
-      keeps = λ at s. rw (is, new.is) (new_array_keeps new.array at s new.none new.empty);
-    }
-
-new_leads : (a : Bool) (rows : Rows) (keys : KeyTexts) (l : ℕ) (i : items.Item) → IsNew (is_last a keys) i
-    → Leads a rows keys l nothing (λ at s. no_origins) i
-new_leads true rows [] l i new = array_leads rows l i new
-new_leads a rows keys l i new = table_leads a rows keys l i refl new
-
--- what stood at a key, and an item from which a header goes on
-pub lead : {a : Bool} {rows : Rows} {keys : KeyTexts} {l : ℕ} (is_new : Bool) {i : items.Item}
-    → (is_new ≡ true → IsNew (is_last a keys) i) → (is_new ≡ false → is_last a keys ≡ false)
-    → Leads a rows keys l (trie_before is_new (item_trie i)) (λ at s. origins_before is_new (item_origins i at s)) i
-lead {a} {rows} {keys} {l} true {i} new not = new_leads a rows keys l i (new refl)
-lead {a} {rows} {keys} {l} false {i} new not = record {
-  same = no_last a rows keys l (item_trie i) (not refl);
+-- to its own, which is new or not, and to one with one table more
+pub lead : {a : Bool} {rows : Rows} {keys : KeyTexts} {l : ℕ} (is_new : Bool) {mid there : Child} → there ≡ mid
+    → (is_new ≡ true → IsNew (is_last a keys) (out-Child mid).item) → (is_new ≡ false → is_last a keys ≡ false)
+    → Leads a rows keys l is_new mid there
+lead {a = a} {rows = rows} {keys = keys} {l = l} false {mid = mid} own new not = record {
+  item = (out-Child mid).item;
+  holds = own ∙ search (rules, items.the_lemmas);
+  same = no_last a rows keys l (item_trie (out-Child mid).item) (not refl);
   keeps = λ at s p aside. refl;
 }
+lead {a = true} {rows = rows} {keys = []} {l = l} true {mid = mid} own new not =
+    let array = new refl in
+    let is : item_trie (out-Child mid).item ≡ array_of [] fresh =
+    rw (array.is, tables_trie array.array, array.none, array.empty) refl in record {
+      item = (out-Child mid).item;
+      holds = own ∙ search (rules, items.the_lemmas);
+      same = ap (course_by true rows [] l) (sym is);
+      keeps = λ at s. rw (is, array.is) (new_array_keeps array.array at s array.none array.empty);
+    }
+lead {a = a} {rows = rows} {keys = keys} {l = l} true {mid = mid} own new not =
+    let table = new refl in
+    let is : item_trie (out-Child mid).item ≡ fresh = rw (table.is, table_item_trie table.table, table.empty) refl in
+    record {
+      item = (out-Child mid).item;
+      holds = own ∙ search (rules, items.the_lemmas);
+      same = no_last a rows keys l nothing refl ∙ sym (ap in_table (course_fresh a rows keys l))
+          ∙ ap (course_by a rows keys l) (sym is);
+      keeps = λ at s. rw table.is (new_table_keeps _ table.table at s table.empty);
+    }
 
-pub lead_more : {rows : Rows} {l : ℕ} {old i : items.Item} → HasOneMore old i
-    → Leads true rows [] l (item_trie old) (item_origins old) i
-lead_more {rows} {l} {old} {i} one =
-    let was : item_trie old ≡ array_of (map table_trie one.before.value.0.items) (table_trie one.before.value.1) =
-    ap item_trie one.was ∙ tables_trie one.before in
-    let is : item_trie i ≡ array_of (map table_trie one.after.value.0.items) fresh =
-    ap item_trie one.is ∙ tables_trie one.after ∙ ap (array_of (map table_trie one.after.value.0.items)) one.empty in
+pub lead_more : {rows : Rows} {l : ℕ} {mid there : Child} {i : Item} → there ≡ holding mid i
+    → HasOneMore (out-Child mid).item i → Leads true rows [] l false mid there
+lead_more {rows} {l} {mid} {there} {i} holds one =
+    let tables = one.after.value.0.items in
+    let was = ap item_trie one.was ∙ tables_trie one.before in
+    let is = ap item_trie one.is ∙ tables_trie one.after ∙ ap (array_of (map table_trie tables)) one.empty in
     let more = ap (map table_trie) one.tables
     ∙ map-append table_trie one.before.value.0.items (one.before.value.1 ∷ []) in
     record {
+      item = i;
+      holds = holds;
       same = ap (course_at true rows [] l) was ∙ course_next rows l _ _
           ∙ ap (course_by true rows [] l) (sym (is ∙ ap (λ ts. array_of ts fresh) more));
       keeps = λ at s. rw (is, one.was, one.is) (more_keeps one.before one.after at s one.tables one.empty);
@@ -126,8 +128,6 @@ pub from_key : {gives : Child → Type 0} {a : Bool} {rows : Rows} {k : List ℕ
 from_key {a = a} {rows = rows} {k = k} {level = level} {n = n} {new = new} {p = p} {t = t} {there = there} {now = now}
     {r = r} key rest text within entered stands from =
     let keys = header_texts rest in
-    let after = with_entries (passed_table t new n)
-    (with_value (out-Table (passed_table t new n)).entries p.position now) in
     let pass = passes t n now entered stands in
     let met = passed_course pass a rows keys level within in
     let before = trie_before p.is_new (child_trie there) in
@@ -149,15 +149,14 @@ module _ {a : Bool} {rows : Rows} {keys : KeyTexts} {level n : ℕ} {r : Result 
   from_table {held} {now} old same takes =
       let from = rw same at takes in
       let after = boxes.with_value old now in
-      let t = table_entries_trie old.value in
       let met : course_by a rows keys (level + 1) (item_trie (items.Table old))
       ≡ in_table (course a rows keys (level + 1) (table_trie old.value)) =
-      ap (course_by a rows keys (level + 1)) (table_item_trie old ∙ t)
-      ∙ ap (λ t. in_table (course a rows keys (level + 1) t)) (sym t) in
+      rw (table_item_trie old, table_entries_trie old.value) refl in
+      let level_is : level + steps_by a keys (item_trie (items.Table old))
+      ≡ (level + 1) + steps_to a keys (table_trie old.value) =
+      ap (λ (c : Course). level + c.steps) met ∙ omega arith in
       let way_is = ap (λ (c : Course). c.way) met in record {
-        entered = entered_on (walk a rows keys (table_trie old.value)) (table_trie now) rows (λ u. u) r
-            (ap (λ (c : Course). c.entered) met ∙ sym (option_map_id _))
-            (ap (λ (c : Course). level + c.steps) met ∙ omega arith) (table_item_trie after) from.entered;
+        entered = rw (ap (λ (c : Course). c.entered) met, table_item_trie after, level_is) from.entered;
         named = rw (ap (λ (c : Course). c.met) met) from.named;
         origins = rw way_is (IfOk-weaker r _ _
             (λ x grows. λ at s. rw (table_item_seen old at s, table_item_seen after at s)
@@ -203,10 +202,7 @@ module _ {a : Bool} {rows : Rows} {level n : ℕ} {i : Item} (keys : List code.K
       let barred = course_barred a rows (header_texts keys) (level + 1) seen.0 (omega (arith, low)) in
       let left : suc (length (header_texts keys)) ≡ length keys + 1 = omega (arith, texts_count keys) in record {
         entered = inr (rw seen.1 barred.0);
-        named = (
-          at_header (length keys + 1),
-          (refl, rw seen.1 (barred.1 ∙ ap (λ (n : ℕ). Some (in_the_way (at_header n))) left)),
-        );
+        named = (at_header (length keys + 1), (refl, rw (seen.1, ← left) barred.1));
         origins = tt;
         marks = tt;
       }
@@ -224,31 +220,6 @@ module _ {a : Bool} {rows : Rows} {level n : ℕ} {i : Item} (keys : List code.K
       further : (m : ℕ) → nesting_limit < highest (level + suc m) rows
       further m = omega (arith, high)
 
--- A child leads on to the item of another.
-pub record LeadsOn (a : Bool) (rows : Rows) (keys : KeyTexts) (l : ℕ) (is_new : Bool) (mid there : Child) : Type 0 where
-  pub leads : Leads a rows keys l (trie_before is_new (item_trie (out-Child mid).item))
-      (λ at s. origins_before is_new (item_origins (out-Child mid).item at s)) (out-Child there).item
-  pub start : (out-Child there).start ≡ (out-Child mid).start
-  pub section : (out-Child there).section ≡ (out-Child mid).section
-
-module _ {a : Bool} {rows : Rows} {keys : KeyTexts} {l : ℕ} {is_new : Bool} {mid there : Child} where
-  -- to its own, and to one that it holds then
-  pub leads_same : there ≡ mid → (is_new ≡ true → IsNew (is_last a keys) (out-Child mid).item)
-      → (is_new ≡ false → is_last a keys ≡ false) → LeadsOn a rows keys l is_new mid there
-  leads_same same new not =
-      rw same (record { leads = lead is_new new not; start = refl; section = refl })
-
-  pub leads_holding : {i : Item} → there ≡ holding mid i
-      → Leads a rows keys l (trie_before is_new (item_trie (out-Child mid).item))
-      (λ at s. origins_before is_new (item_origins (out-Child mid).item at s)) i
-      → LeadsOn a rows keys l is_new mid there
-  leads_holding {i} same leads =
-      let out = ap out-Child same ∙ out_holding mid i in record {
-        leads = rw (ap (λ o. o.item) out) leads;
-        start = ap (λ o. o.start) out;
-        section = ap (λ o. o.section) out;
-      }
-
 -- a child that is new is no section, so it stays
 pub new_stays : (a : Bool) (mid there : Child) (is_new : Bool)
     → (is_section (out-Child there).item ≡ false → mid ≡ there) → (is_new ≡ true → IsNew a (out-Child there).item)
@@ -259,33 +230,29 @@ new_stays a mid there is_new others new is =
 -- What stands at a key is gone on from by the item that it leads on to.
 pub from_item : {a : Bool} {rows : Rows} {keys : KeyTexts} {level n : ℕ} {is_new : Bool} {old mid there : Child}
     {item : Item} {r : Result (Unit {0}) Clash} → child_trie mid ≡ child_trie old
-    → child_origins mid ≡ child_origins old → LeadsOn a rows keys (level + 1) is_new mid there
+    → child_origins mid ≡ child_origins old → Leads a rows keys (level + 1) is_new mid there
     → TakesHeaderInItem a rows keys level n (out-Child there).item item r
     → TakesHeaderAtKey a rows keys level n is_new old (holding there item) r
 from_item {a} {rows} {keys} {level} {n} {is_new} {old} {mid} {there} {item} {r} same came on from =
-    let same_course = on.leads.same in
-    let i = (out-Child there).item in
-    let at = (out-Child there).start in
-    let s = (out-Child there).section in
-    let b = trie_before is_new (item_trie (out-Child mid).item) in
-    let before : b ≡ trie_before is_new (child_trie old) =
-    ap (trie_before is_new) (sym (child_item_trie mid) ∙ same) in
-    let was = origins_before is_new (item_origins (out-Child mid).item at s) in
-    let was_is : was ≡ origins_before is_new (child_origins old) =
-    ap₂ (λ at s. origins_before is_new (item_origins (out-Child mid).item at s)) on.start on.section
-    ∙ ap (origins_before is_new) (sym (child_seen mid) ∙ came) in
-    let way_is : way_at a keys b ≡ way_by a keys (item_trie i) = ap (λ (c : Course). c.way) same_course in record {
+    let out = ap out-Child on.holds ∙ out_holding mid on.item in
+    let takes = rw (ap (λ o. o.item) out) at from in
+    let at = (out-Child mid).start in
+    let s = (out-Child mid).section in
+    let now_is = holding_origins there item ∙ ap (λ o. item_origins item o.start o.section) out in
+    let way_is = ap (λ (c : Course). c.way) on.same in record {
       entered = rw (
         holding_trie there item,
-        ← before,
-        ap (λ (c : Course). c.entered) same_course,
-        ap (λ (c : Course). c.steps) same_course,
-      ) from.entered;
-      named = rw (← before, ap (λ (c : Course). c.met) same_course) from.named;
-      origins = rw (holding_origins there item, ← before, way_is, ← was_is) (IfOk-weaker r _ _
-          (λ x grows. grows_after (way_by a keys (item_trie i)) (rows_origins n rows) was (item_origins i at s)
-          (item_origins item at s) (on.leads.keeps at s) (grows at s)) from.origins);
-      marks = rw (holding_origins there item, ← before, way_is) (IfOk-weaker r _ _ (λ x marks. marks at s) from.marks);
+        ← same,
+        child_item_trie mid,
+        ap (λ (c : Course). c.entered) on.same,
+        ap (λ (c : Course). c.steps) on.same,
+      ) takes.entered;
+      named = rw (← same, child_item_trie mid, ap (λ (c : Course). c.met) on.same) takes.named;
+      origins = rw (now_is, ← same, child_item_trie mid, way_is, ← came, child_seen mid)
+          (IfOk-weaker r _ _ (λ x grows. grows_after (way_by a keys (item_trie on.item)) (rows_origins n rows) _ _ _
+          (on.keeps at s) (grows at s)) takes.origins);
+      marks = rw (now_is, ← same, child_item_trie mid, way_is)
+          (IfOk-weaker r _ _ (λ x marks. marks at s) takes.marks);
     }
 
 -- A child to which no table is added leads on to nothing.
@@ -295,11 +262,10 @@ pub from_none : {rows : Rows} {level n : ℕ} {old now : Child} {r : Result (Uni
     → ((rows : Rows) → NamesObstacle (element_obstacle (level + 1) rows (item_trie (out-Child mid).item)) clash)
     → IsErrAnd r (λ f. f ≡ clash) → TakesHeaderAtKey true rows [] level n false old now r
 from_none {rows} {level} {n} {old} {now} {r} mid clash same out named is =
-    let before = sym (child_item_trie mid) ∙ same in
     let p = err_from_is_err_and r is in
     rw (p.1, p.2) (record {
-      entered = rw (← before) (out rows);
-      named = rw (← before) (named rows);
+      entered = rw (← same, child_item_trie mid) (out rows);
+      named = rw (← same, child_item_trie mid) (named rows);
       origins = tt;
       marks = tt;
     })

@@ -12,8 +12,8 @@ use Rattle.basic_toml_plain.proofs.WhatIsLeft.{nothing_left}
 use Rattle.basic_toml_grow.specs.declared.item.Item as items
 use Rattle.basic_toml_grow.specs.declared.item.Item.TheViews.{out-Item}
 use Rattle.basic_toml_grow.specs.Headers.{is_last}
-use Rattle.basic_toml_grow.proofs.HeadersGoOn.{LeadsOn, from_deep_value, from_item, from_key, from_latest, from_none}
-use Rattle.basic_toml_grow.proofs.HeadersGoOn.{from_table, from_value, lead_more, leads_holding, leads_same, new_stays}
+use Rattle.basic_toml_grow.proofs.HeadersGoOn.{Leads, from_deep_value, from_item, from_key, from_latest, from_none}
+use Rattle.basic_toml_grow.proofs.HeadersGoOn.{from_table, from_value, lead, lead_more, new_stays}
 use Rattle.basic_toml_grow.proofs.HeadersGoOn.{not_last}
 use Rattle.basic_toml_grow.proofs.RowsKept.{CanStay, back_view, can_stay, stay_at_key, stay_in_first, stay_in_next}
 use Rattle.basic_toml_grow.proofs.headers.+walk.Goals as goal
@@ -25,7 +25,7 @@ use Rattle.basic_toml_grow.proofs.headers.+walk.Goals.{enter_at-else-is_array-vi
 
 -- what stands at a key leads on to the item from which the code goes on
 leads : (t : ℕ) (c : goal.enter_at-After-enter_item t)
-    → LeadsOn c.args.is_array (rows_view c.args.rows.now) (header_texts c.args.rest.now) (c.args.level + 1)
+    → Leads c.args.is_array (rows_view c.args.rows.now) (header_texts c.args.rest.now) (c.args.level + 1)
     c.args.is_new c.unfold.new.self c.if-is_array.there
 leads t c =
     let keys = c.args.rest.now in
@@ -35,14 +35,14 @@ leads t c =
       | enter_at-then-is_array+then-is_empty+then-not-is_new+in_ok-add_table w ↦
           let none = nothing_left keys (grind (arith, w.is_empty.ensures, w.if-is_empty.true)) in
           rw (w.if-is_array.true, none, w.if-not-is_new.true)
-          (leads_holding w.there-is (lead_more w.in_ok-add_table.ensures.more))
+          (lead_more w.there-is w.in_ok-add_table.ensures.more)
       | enter_at-else-is_array w ↦ elim w.else-is_array.branch [
         | enter_at-else-is_array-via-then-is_array+then-is_empty+else-not-is_new v ↦
-            leads_same w.there-is new (λ not. absurd (false≢true (sym not ∙ v.if-not-is_new.false)))
+            lead _ w.there-is new (λ not. absurd (false≢true (sym not ∙ v.if-not-is_new.false)))
         | enter_at-else-is_array-via-then-is_array+else-is_empty v ↦
-            leads_same w.there-is new (λ not. not_last _ keys (grind (arith, v.is_empty.ensures, v.if-is_empty.false)))
+            lead _ w.there-is new (λ not. not_last _ keys (grind (arith, v.is_empty.ensures, v.if-is_empty.false)))
         | enter_at-else-is_array-via-else-is_array v ↦
-            leads_same w.there-is new (λ not. ap (λ b. is_last b (header_texts keys)) v.if-is_array.false)
+            lead _ w.there-is new (λ not. ap (λ b. is_last b (header_texts keys)) v.if-is_array.false)
       ]
     ]
 
