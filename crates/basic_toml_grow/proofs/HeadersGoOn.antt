@@ -5,8 +5,7 @@
 use Rattle.std.specs.Box as boxes
 use Rattle.std.specs.List.{slice_get}
 use Rattle.std.proofs.Common.{◌≡◌, ◌≤◌, ◌<◌, ℕ, suc, ◌+◌, Bool, true, false, List, [], ◌∷◌, length, map, Some, refl, ap}
-use Rattle.std.proofs.Common.{ap₂, sym, ◌∙◌, arith, inr, Vec, Box, Global, Result, Err, IsErrAnd, rules}
-use Rattle.std.proofs.lemmas.Iterator.Adapters.{option_map_id}
+use Rattle.std.proofs.Common.{sym, ◌∙◌, arith, inr, Vec, Box, Global, Result, Err, IsErrAnd, rules}
 use Rattle.std.proofs.lemmas.Result.{IfOk-weaker, err_from_is_err_and}
 use Rattle.std.proofs.lemmas.List.{map-append}
 use Rattle.basic_toml_value.specs.Nesting.{nesting_limit}
@@ -14,7 +13,7 @@ use Rattle.basic_toml_value.specs.Growth.{FindsOrAdds, with_value, values_of}
 use Rattle.basic_toml_value.specs.declared.pairs.growth.Place.{Place}
 use Rattle.basic_toml_grammar.specs.Sections.{KeyTexts, Rows}
 use Rattle.basic_toml_grammar.specs.Stops.{at_header}
-use Rattle.basic_toml_grammar.specs.Trie.{put_element, walk, count, steps_on, steps_to, Trie, nothing}
+use Rattle.basic_toml_grammar.specs.Trie.{put_element, walk, count, steps_on, steps_to, nothing}
 use Rattle.basic_toml_plain.specs.Tries.{leaf}
 use Rattle.basic_toml_read.specs.declared.section.Key as code
 use Rattle.basic_toml_read.specs.KeyText.{key_text_bytes}
@@ -25,15 +24,14 @@ use Rattle.basic_toml_grow.specs.declared.item.Item as items
 use Rattle.basic_toml_grow.specs.declared.item.Child.{Child, out-Child}
 use Rattle.basic_toml_grow.specs.declared.item.Table.{Table, out-Table}
 use Rattle.basic_toml_grow.specs.declared.clash.Clash.TheVariants.{Deep, Header}
-use Rattle.basic_toml_grow.specs.Clash.{NamesObstacle, in_the_way}
+use Rattle.basic_toml_grow.specs.Clash.{NamesObstacle}
 use Rattle.basic_toml_grow.specs.Item.{child_trie, item_trie, table_trie, trie_before, is_section}
 use Rattle.basic_toml_grow.specs.Simple.{with_entries}
-use Rattle.basic_toml_grow.specs.Headers.{IsKeptOut, IsNew, entered_at, highest, is_last, IsNewTable, IsNewArray}
+use Rattle.basic_toml_grow.specs.Headers.{IsKeptOut, IsNew, highest, is_last}
 use Rattle.basic_toml_grow.specs.Headers.{HasOneMore, steps_by}
 use Rattle.basic_toml_grow.specs.Obstacles.{element_obstacle}
 use Rattle.basic_toml_grow.specs.Origins.{child_origins, item_origins, origins_before, rows_origins, table_within}
-use Rattle.basic_toml_grow.specs.Origins.{Origins, no_origins}
-use Rattle.basic_toml_grow.specs.Ways.{way, way_by, way_at}
+use Rattle.basic_toml_grow.specs.Ways.{way, way_by}
 use Rattle.basic_toml_grow.specs.Takes.{TakesHeader, TakesHeaderAtKey, TakesHeaderInItem}
 use Rattle.basic_toml_grow.proofs.HeadersInATrie.{array_of, Course, course, course_by, course_barred, course_latest}
 use Rattle.basic_toml_grow.proofs.HeadersInATrie.{deep_met, entered_on, in_latest, in_table, fresh, course_at}
@@ -117,29 +115,25 @@ no_new_section true i new = ap is_section new.is ∙ search (rules, items.the_le
 no_new_section false i new = ap is_section new.is ∙ search (rules, items.the_lemmas)
 
 -- A table is passed by a key.
-pub from_key : {gives : Child → Type 0} {a : Bool} {rows : Rows} {k : List ℕ} {level n : ℕ}
-    {new : List (List ℕ × Child)} {p : Place} {t : Table} {there now : Child} {r : Result (Unit {0}) Clash}
-    (key : code.Key) (rest : List code.Key) → k ≡ key_text_bytes key.text → level ≤ nesting_limit
-    → FindsOrAdds gives k (out-Table t).entries new p
-    → slice_get (values_of (out-Table (passed_table t new n)).entries) p.position ≡ Some there
-    → TakesHeaderAtKey a rows (header_texts rest) level n p.is_new there now r
-    → TakesHeader a rows (header_texts (key ∷ rest)) level n t (with_entries (passed_table t new n)
-    (with_value (out-Table (passed_table t new n)).entries p.position now)) r
-from_key {a = a} {rows = rows} {k = k} {level = level} {n = n} {new = new} {p = p} {t = t} {there = there} {now = now}
-    {r = r} key rest text within entered stands from =
-    let keys = header_texts rest in
-    let pass = passes t n now entered stands in
-    let met = passed_course pass a rows keys level within in
-    let before = trie_before p.is_new (child_trie there) in
-    let way_is = ap (λ (c : Course). c.way) met in
-    rw (← text) (record {
-      entered = entered_on (entered_at a rows keys before) (child_trie now) rows (passed_with pass) r
-          (ap (λ (c : Course). c.entered) met) (ap (λ (c : Course). level + c.steps) met) (passed_trie pass)
-          from.entered;
-      named = rw (ap (λ (c : Course). c.met) met) from.named;
-      origins = rw way_is (IfOk-weaker r _ _ (λ x grows. passed_grows pass _ (rows_origins n rows) grows) from.origins);
-      marks = rw way_is (IfOk-weaker r _ _ (λ x marks. passed_marks pass _ marks) from.marks);
-    })
+module _ {gives : Child → Type 0} {a : Bool} {rows : Rows} {k : List ℕ} {level n : ℕ} {new : List (List ℕ × Child)}
+    {p : Place} {t : Table} {there now : Child} {r : Result (Unit {0}) Clash} where
+  pub from_key : (key : code.Key) (rest : List code.Key) → k ≡ key_text_bytes key.text → level ≤ nesting_limit
+      → FindsOrAdds gives k (out-Table t).entries new p
+      → slice_get (values_of (out-Table (passed_table t new n)).entries) p.position ≡ Some there
+      → TakesHeaderAtKey a rows (header_texts rest) level n p.is_new there now r
+      → TakesHeader a rows (header_texts (key ∷ rest)) level n t (with_entries (passed_table t new n)
+      (with_value (out-Table (passed_table t new n)).entries p.position now)) r
+  from_key key rest text within entered stands from =
+      let pass = passes t n now entered stands in
+      let met = passed_course pass a rows (header_texts rest) level within in
+      let way_is = ap (λ (c : Course). c.way) met in
+      rw (← text) (record {
+        entered = rw (ap (λ (c : Course). c.entered) met, passed_trie pass) (entered_on _ (child_trie now) rows
+            (passed_with pass) r (ap (λ (c : Course). level + c.steps) met) from.entered);
+        named = rw (ap (λ (c : Course). c.met) met) from.named;
+        origins = rw way_is (IfOk-weaker r _ _ (λ x grows. passed_grows pass _ _ grows) from.origins);
+        marks = rw way_is (IfOk-weaker r _ _ (λ x marks. passed_marks pass _ marks) from.marks);
+      })
 
 -- The item is a table, or an array of tables, whose latest is gone on from.
 module _ {a : Bool} {rows : Rows} {keys : KeyTexts} {level n : ℕ} {r : Result (Unit {0}) Clash} where
@@ -180,11 +174,9 @@ module _ {a : Bool} {rows : Rows} {keys : KeyTexts} {level n : ℕ} {r : Result 
       ap (course_by a rows keys (level + 1)) (tables_trie old)
       ∙ course_latest a rows keys (level + 1) (level + 2) before t (omega arith) in
       let way_is = ap (λ (c : Course). c.way) met in record {
-        entered = entered_on (walk a rows keys t) (table_trie now) rows (λ u. array_of before u) r
-            (ap (λ (c : Course). c.entered) met)
-            (ap (λ (c : Course). level + c.steps) met ∙ omega arith)
-            (tables_trie after
-            ∙ ap (λ (ts : Vec Table Global). array_of (map table_trie ts.items) (table_trie now)) same) from.entered;
+        entered = rw (ap (λ (c : Course). c.entered) met, tables_trie after, same) (entered_on (walk a rows keys t)
+            (table_trie now) rows (λ u. array_of before u) r (ap (λ (c : Course). level + c.steps) met ∙ omega arith)
+            from.entered);
         named = rw (ap (λ (c : Course). c.met) met) from.named;
         origins = rw way_is (IfOk-weaker r _ _
             (λ x grows. latest_grows old after _ (rows_origins n rows) same grows) from.origins);

@@ -36,32 +36,24 @@ abbrev pub array_of : List Trie → Trie → Trie
 array_of before latest =
     trie (Some (standing.array (suc (length before)))) None (by_numbers 0 (before ++ latest ∷ []))
 
--- what is entered further on is entered here
-pub entered_on : {e : Option Trie} {l m : ℕ} {after : Trie} (w : Option Trie) (t : Trie) (rows : Rows)
-    (f : Trie → Trie) (r : Result (Unit {0}) Clash) → e ≡ option_map f w → l ≡ m → after ≡ f t
-    → EntersItem w rows m t r → EntersItem e rows l after r
-entered_on w t rows f (Ok x) goes level made_of is = record {
-  gives = goes ∙ ap (option_map f) is.gives ∙ ap Some (sym made_of);
-  apart = is.apart;
-  fits = rw level is.fits;
-}
-entered_on w t rows f (Err Memory) goes level made_of out = tt
-entered_on w t rows f (Err Deep) goes level made_of out = rw level out
-entered_on w t rows f (Err _) goes level made_of (inl clash) = inl clash
-entered_on w t rows f (Err _) goes level made_of (inr none) = inr (goes ∙ ap (option_map f) none)
+-- what is entered further on is entered here, on the same level
+pub entered_on : {l m : ℕ} (w : Option Trie) (t : Trie) (rows : Rows) (f : Trie → Trie) (r : Result (Unit {0}) Clash)
+    → l ≡ m → EntersItem w rows m t r → EntersItem (option_map f w) rows l (f t) r
+entered_on w t rows f (Ok x) level is =
+    record { gives = ap (option_map f) is.gives; apart = is.apart; fits = rw level is.fits }
+entered_on w t rows f (Err Memory) level out = tt
+entered_on w t rows f (Err Deep) level out = rw level out
+entered_on w t rows f (Err _) level (inl clash) = inl clash
+entered_on w t rows f (Err _) level (inr none) = inr (ap (option_map f) none)
 
 -- and rows that are put into a table, or are not
-pub rows_entered : (e : Option Trie) (rows : Rows) (l m : ℕ) (t after : Trie) (r : Result (Unit {0}) Clash)
-    → e ≡ put_rows rows t → m ≡ l → l ≤ nesting_limit → EntersRows rows l t after r → EntersItem e rows m after r
-rows_entered e rows l m t after (Ok x) same level within are = record {
-  gives = same ∙ are.put;
-  apart = are.apart;
-  fits = rw level (grind (arith, are.fits));
-}
-rows_entered e rows l m t after (Err Memory) same level within out = tt
-rows_entered e rows l m t after (Err Deep) same level within out = rw level (grind (arith, out))
-rows_entered e rows l m t after (Err _) same level within (inl clash) = inl clash
-rows_entered e rows l m t after (Err _) same level within (inr none) = inr (same ∙ none)
+pub rows_entered : (rows : Rows) (l : ℕ) (t after : Trie) (r : Result (Unit {0}) Clash) → l ≤ nesting_limit
+    → EntersRows rows l t after r → EntersItem (put_rows rows t) rows l after r
+rows_entered rows l t after (Ok x) within are =
+    record { gives = are.put; apart = are.apart; fits = grind (arith, are.fits) }
+rows_entered rows l t after (Err Memory) within out = tt
+rows_entered rows l t after (Err Deep) within out = grind (arith, out)
+rows_entered rows l t after (Err _) within out = out
 
 -- What a header does from here by the keys that are left: what it enters, how many steps further, what it meets first,
 -- and its way.

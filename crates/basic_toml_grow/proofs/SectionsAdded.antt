@@ -33,9 +33,9 @@ module _ (s level : ℕ) (rows : List Row) (b : Box SectionTables Global) (befor
       → put_element (seen s rows) t ≡ option_map (λ u. array_of (tries before) u) (put_table (seen s rows) fresh)
       → IsIn (put_element (seen s rows) t) (seen s rows) (level + 2) (item_trie (items.Sections b))
   added_in low few t put =
-      entered_on (put_table (seen s rows) nothing) _ (seen s rows) (λ u. array_of (tries before) u) (Ok tt) put refl
-      (sections_trie b ∙ ap (λ (ts : SectionTables). array_of (tries ts.0) (rows_trie ts.1.1)) is
-      ∙ ap (array_of (tries before)) (sym (section_item_trie rows))) (section_entered s rows (level + 2) low few)
+      rw (put, sections_trie b, is, ← section_item_trie rows)
+      (entered_on (put_table (seen s rows) nothing) _ (seen s rows) (λ u. array_of (tries before) u) (Ok tt) refl
+      (section_entered s rows (level + 2) low few))
 
   -- what its rows bring, and what headers made
   module _ (at z : ℕ) where

@@ -3,19 +3,19 @@ use Rattle.std.proofs.Common.{◌≡◌, ◌≤◌, ℕ, true, List, [], ◌∷�
 use Rattle.std.proofs.lemmas.Bool.{false≢true}
 use Rattle.basic_toml_value.specs.Nesting.{nesting_limit}
 use Rattle.basic_toml_grammar.specs.Sections.{Rows}
-use Rattle.basic_toml_grammar.specs.Trie.{nothing, put_rows, put_table}
+use Rattle.basic_toml_grammar.specs.Trie.{nothing, put_table}
 use Rattle.basic_toml_read.specs.declared.section.Row.{Row}
 use Rattle.basic_toml_read.specs.SectionView.{rows_seen}
 use Rattle.basic_toml_plain.specs.Plain.{are_few_simple}
 use Rattle.basic_toml_plain.proofs.PlainValues.{few_lower}
 use Rattle.basic_toml_grow.specs.declared.item.Item as items
-use Rattle.basic_toml_grow.specs.Item.{item_trie, table_trie}
+use Rattle.basic_toml_grow.specs.Item.{item_trie}
 use Rattle.basic_toml_grow.specs.Headers.{IsIn}
 use Rattle.basic_toml_grow.specs.Origins.{item_origins, no_origins, rows_origins, section_origins}
 use Rattle.basic_toml_grow.specs.Ways.{GrowsAlong, MarksWay}
 use Rattle.basic_toml_grow.proofs.HeadersInATrie.{rows_entered}
 use Rattle.basic_toml_grow.proofs.KeysInATrie.{tries_of}
-use Rattle.basic_toml_grow.proofs.SectionTables.{bare, section_table_trie, section_taken, section_trie}
+use Rattle.basic_toml_grow.proofs.SectionTables.{section_table_trie, section_taken, section_trie}
 use Rattle.basic_toml_grow.proofs.Origins.OriginsSeen.{section_item_seen}
 
 module _ (s : ℕ) (rows : List Row) where
@@ -27,9 +27,8 @@ module _ (s : ℕ) (rows : List Row) where
       → IsIn (put_table seen nothing) seen level (item_trie (items.Section rows))
   unfolding tries_of
   section_entered level low are =
-      rw (section_trie s rows (few_lower rows level are))
-      (rows_entered (put_table seen nothing) seen level level (table_trie (bare s)) _ (Ok tt)
-      (ap (put_rows seen) (sym (section_table_trie s []))) refl low (section_taken s rows level low are).entered)
+      let taken = rw (section_table_trie s []) at (section_taken s rows level low are).entered in
+      rw (section_trie s rows (few_lower rows level are)) (rows_entered seen level _ _ (Ok tt) low taken)
 
   -- what its rows bring, and what headers made
   pub section_grows : (at : ℕ)

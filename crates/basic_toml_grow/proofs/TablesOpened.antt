@@ -1,11 +1,11 @@
 -- The table that a header names, and the array of tables that it adds an element to, as contracts say it.
-use Rattle.std.proofs.Common.{◌≡◌, ℕ, ◌+◌, ◌≤◌, true, false, List, [], map}
-use Rattle.std.proofs.Common.{refl, arith, rules, Some, None, Vec, Box, Global, Result}
+use Rattle.std.proofs.Common.{◌≡◌, ℕ, ◌≤◌, true, false, List, [], map}
+use Rattle.std.proofs.Common.{refl, add-zero, rules, Some, None, Vec, Box, Global, Result}
 use Rattle.std.proofs.lemmas.List.{length-map}
 use Rattle.basic_toml_value.specs.Nesting.{nesting_limit}
 use Rattle.basic_toml_grammar.specs.Sections.{Rows}
 use Rattle.basic_toml_grammar.specs.Standing as standings
-use Rattle.basic_toml_grammar.specs.Trie.{trie, put_table}
+use Rattle.basic_toml_grammar.specs.Trie.{trie, put_rows, put_table}
 use Rattle.basic_toml_read.specs.declared.section.Row.{Row}
 use Rattle.basic_toml_plain.specs.Tries.{by_keys, row_trie, rows_trie}
 use Rattle.basic_toml_plain.specs.PlainTables.{SectionTable, SectionTables}
@@ -25,8 +25,9 @@ pub open_named : {rows : Rows} {n level : ℕ} {opened after : Table} {r : Resul
     → (out-Table t).named ≡ false → (out-Table t).dotted ≡ false → level ≤ nesting_limit
     → EntersHeader false rows [] level (table_trie t) (table_trie after) r
 open_named {rows} {n} {level} {opened} {after} {r} t takes is named dotted within =
-    rows_entered (put_table rows (table_trie t)) rows level (level + 0) (table_trie opened) (table_trie after) r
-    (rw (table_entries_trie t, table_entries_trie opened, is, named, dotted) refl) (omega arith) within takes.entered
+    let same : put_table rows (table_trie t) ≡ put_rows rows (table_trie opened) =
+    rw (table_entries_trie t, table_entries_trie opened, is, named, dotted) refl in
+    rw (same, add-zero) (rows_entered rows level (table_trie opened) (table_trie after) r within takes.entered)
 
 pub tables_trie : (tables : Box (Vec Table Global × Table) Global)
     → item_trie (Tables tables) ≡ array_of (map table_trie tables.value.0.items) (table_trie tables.value.1)

@@ -17,7 +17,7 @@ use Rattle.basic_toml_grow.specs.Origins.{child_origins, of_table, section_in}
 use Rattle.basic_toml_grow.specs.Origins.{table_within, with_more, or_else, origins_before, beyond, row_origins}
 use Rattle.basic_toml_grow.proofs.ItemTries.{entries_with}
 use Rattle.basic_toml_grow.proofs.KeysInATrie.{with_same}
-use Rattle.basic_toml_grow.proofs.Origins.OriginsSeen.{child_seen, table_seen, made_seen, section_seen, table_item_seen}
+use Rattle.basic_toml_grow.proofs.Origins.OriginsSeen.{child_seen, table_seen, table_item_seen}
 use Rattle.basic_toml_grow.proofs.Origins.OriginsSeen.{grows_at}
 use Rattle.basic_toml_grow.proofs.MetTellsStop.{dotted_fields}
 
