@@ -127,9 +127,8 @@ course_through _ rows k _ l p n d ts = refl
 -- a table above the limit
 pub deep_met : (a : Bool) (rows : Rows) (keys : KeyTexts) (l : ℕ) (t : Trie) → nesting_limit < l
     → keys_obstacle a rows keys l t ≡ Some too_deep
-deep_met a rows [] l t over = behind_high l _ over
 deep_met a rows (k ∷ []) l t over = behind_high l _ over
-deep_met a rows (k ∷ m ∷ keys) l t over = behind_high l _ over
+deep_met a rows _ l t over = behind_high l _ over
 
 -- the level of an array is no other obstacle than that of its latest table
 array_aside : (a : Bool) (rows : Rows) (keys : KeyTexts) (l : ℕ) (t : Trie)
@@ -143,9 +142,7 @@ array_aside a rows keys l t = elim (cases_lt nesting_limit l) [
 pub enter_latest : (a : Bool) (rows : Rows) (keys : KeyTexts) (before : List Trie) (t : Trie)
     → entered_by a rows keys (array_of before t) ≡ option_map (λ u. array_of before u) (walk a rows keys t)
 enter_latest a rows keys before t =
-    rw ((at_latest 0 (length before) before t (omega arith)).1 (λ t. walk a rows keys t))
-    (mapped_twice (λ ts. trie (Some (standing.array (suc (length before)))) None ts)
-    (λ u. by_numbers 0 (before ++ u ∷ [])) (walk a rows keys t))
+    rw ((at_latest 0 (length before) before t (omega arith)).1 (λ t. walk a rows keys t), mapped_twice) refl
 
 pub course_latest : (a : Bool) (rows : Rows) (keys : KeyTexts) (l m : ℕ) (before : List Trie) (t : Trie) → l + 1 ≡ m
     → course_by a rows keys l (array_of before t) ≡ in_latest before (course a rows keys m t)
@@ -161,9 +158,7 @@ pub put_next : (rows : Rows) (before : List Trie) (t : Trie)
 put_next rows before t =
     let more = before ++ t ∷ [] in
     let len : length more ≡ suc (length before) = omega (arith, length-append before (t ∷ [])) in
-    rw (len, (at_next 0 (suc (length before)) more (omega arith)).1 (λ t. put_table rows t))
-    (mapped_twice (λ ts. trie (Some (standing.array (suc (suc (length before))))) None ts)
-    (λ u. by_numbers 0 (more ++ u ∷ [])) (put_table rows nothing))
+    rw (len, (at_next 0 (suc (length before)) more (omega arith)).1 (λ t. put_table rows t), mapped_twice) refl
 
 pub course_next : (rows : Rows) (l : ℕ) (before : List Trie) (t : Trie)
     → course_at true rows [] l (array_of before t) ≡ course_by true rows [] l (array_of (before ++ t ∷ []) fresh)
@@ -178,6 +173,5 @@ course_next rows l before t =
 pub course_barred : (a : Bool) (rows : Rows) (keys : KeyTexts) (l : ℕ) (d : Data) → l ≤ nesting_limit
     → (entered_by a rows keys (leaf d) ≡ None)
     × (obstacle_by a rows keys l (leaf d) ≡ Some (in_the_way (at_header (suc (length keys)))))
-course_barred a rows [] l d within = (refl, behind_low l _ within)
 course_barred a rows (k ∷ []) l d within = (refl, behind_low l _ within)
-course_barred a rows (k ∷ m ∷ keys) l d within = (refl, behind_low l _ within)
+course_barred a rows _ l d within = (refl, behind_low l _ within)

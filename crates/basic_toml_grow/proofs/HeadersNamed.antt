@@ -70,8 +70,4 @@ pub joined_next : (keys : KeyTexts) (n : ℕ) (k name : List ℕ) → 0 < n → 
 joined_next [] n k name some within read is = absurd (omega (arith, within))
 joined_next (p ∷ keys) zero k name some within read is = absurd (omega (arith, some))
 joined_next (p ∷ keys) (suc n) k name some within read is =
-    ap (λ l. (l ++ period ∷ []) ++ k) is
-    ∙ append_assoc (join_with_byte period (p ∷ take n keys)) (period ∷ []) k
-    ∙ sym (join_more p k (take n keys))
-    ∙ sym (ap (join_with_byte period) (take_more (p ∷ keys) (suc n) k within
-    ∙ ap (λ k. take (suc n) (p ∷ keys) ++ k ∷ []) (sym read)))
+    rw (is, append_assoc, take_more (p ∷ keys) (suc n) k within, ← read) (sym (join_more p k (take n keys)))

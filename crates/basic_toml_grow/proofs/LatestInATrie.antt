@@ -2,7 +2,7 @@
 use Rattle.std.proofs.Common.{◌≡◌, ℕ, suc, ◌+◌, ◌<◌, List, [], ◌∷◌, ◌++◌, length, Option, Some, None, true, false}
 use Rattle.std.proofs.Common.{refl, arith, nat_eq, option_map}
 use Rattle.basic_toml_grammar.specs.Steps.{number}
-use Rattle.basic_toml_grammar.specs.Trie.{Trie, by, nothing, among, find}
+use Rattle.basic_toml_grammar.specs.Trie.{Trie, nothing, among, find}
 use Rattle.basic_toml_grow.specs.Item.{by_numbers}
 
 nat_eq-same : (n m : ℕ) → n ≡ m → nat_eq n m ≡ true
@@ -24,11 +24,7 @@ pub at_latest : (k n : ℕ) (before : List Trie) (t : Trie) → n ≡ k + length
 at_latest k n [] t e = rw (nat_eq-same k n (omega arith)) (refl, λ g. refl)
 at_latest k n (b ∷ before) t e =
     let next = at_latest (suc k) n before t (omega arith) in
-    rw (nat_eq-other k n (omega arith)) (
-      next.0,
-      λ g. rw (next.1 g)
-          (mapped_twice (λ ts. by (number k) b ts) (λ u. by_numbers (suc k) (before ++ u ∷ [])) (g t)),
-    )
+    rw (nat_eq-other k n (omega arith)) (next.0, λ g. rw (next.1 g, mapped_twice) refl)
 
 -- one more after some tables
 pub at_next : (k n : ℕ) (before : List Trie) → n ≡ k + length before
@@ -38,8 +34,4 @@ pub at_next : (k n : ℕ) (before : List Trie) → n ≡ k + length before
 at_next k n [] e = let same : n ≡ k = omega arith in rw same (refl, λ g. refl)
 at_next k n (b ∷ before) e =
     let next = at_next (suc k) n before (omega arith) in
-    rw (nat_eq-other k n (omega arith)) (
-      next.0,
-      λ g. rw (next.1 g)
-          (mapped_twice (λ ts. by (number k) b ts) (λ u. by_numbers (suc k) (before ++ u ∷ [])) (g nothing)),
-    )
+    rw (nat_eq-other k n (omega arith)) (next.0, λ g. rw (next.1 g, mapped_twice) refl)

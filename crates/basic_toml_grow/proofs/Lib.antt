@@ -29,5 +29,4 @@ pub mod InlineTables
 pub mod SimpleRows
 pub mod SectionTables
 pub mod SectionsEntered
-pub mod SectionsAdded
 pub mod RowsKept
