@@ -17,14 +17,13 @@ use Rattle.std.proofs.lemmas.Bool.{false≢true}
 use Rattle.basic_toml_grow.specs.Item.{item_trie, child_trie, table_trie, trie_before, holds_section, is_section}
 use Rattle.basic_toml_value.specs.Growth.{FindsOrAdds, with_value, values_of}
 use Rattle.basic_toml_value.specs.declared.pairs.growth.Place.{Place}
-use Rattle.basic_toml_grow.specs.Headers.{entered_at, steps_at, obstacle_at}
-use Rattle.basic_toml_grow.specs.Ways.{way_at}
+use Rattle.basic_toml_grow.specs.Headers.{entered_at}
 use Rattle.basic_toml_value.specs.Nesting.{nesting_limit}
 use Rattle.basic_toml_grow.specs.Simple.{with_entries}
 use Rattle.basic_toml_grow.proofs.KeysInATrie.{tries_of, at_entered, with_mapped}
 use Rattle.basic_toml_grow.proofs.ItemTries.{child_item_trie, table_entries_trie}
 use Rattle.basic_toml_grow.proofs.ItemsStand.{shape}
-use Rattle.basic_toml_grow.proofs.HeadersInATrie.{made, Course, course_of, same_course}
+use Rattle.basic_toml_grow.proofs.HeadersInATrie.{made, Course, course_of}
 use Rattle.basic_toml_grow.proofs.HeadersInATrie.{course, course_at, course_through}
 use Rattle.basic_toml_grow.proofs.LatestInATrie.{mapped_twice}
 use Rattle.basic_toml_grow.proofs.ObstaclesPassOn.{behind_low}
@@ -101,14 +100,11 @@ module _ {gives : Child → Type 0} {k : List ℕ} {t u : Table} {p : Place} {th
   passed_course a rows keys l within =
       let o = out-Table t in
       let at = at_entered child_trie k o.entries pass.entries p pass.entered there pass.stands in
-      ap (course a rows (k ∷ keys) l) (table_entries_trie t)
-      ∙ course_through a rows k keys l o.passed o.named o.dotted (by_keys (tries_of child_trie o.entries))
-      ∙ same_course
-      (ap (option_map (λ ts. made true o.named o.dotted ts))
-      (at.1 (λ t. entered_at a rows keys t))
-      ∙ mapped_twice (λ ts. made true o.named o.dotted ts)
-      (λ v. by_keys (with_value (tries_of child_trie pass.entries) p.position v))
-      (entered_at a rows keys (trie_before p.is_new (child_trie there))))
-      (ap (steps_at a keys) at.0)
-      (behind_low l _ within ∙ ap (obstacle_at a rows keys (l + 1)) at.0)
-      (ap (λ t. key k ∷ way_at a keys t) at.0)
+      rw (
+        table_entries_trie t,
+        course_through a rows k keys l o.passed o.named o.dotted _,
+        at.1 (λ t. entered_at a rows keys t),
+        at.0,
+        mapped_twice,
+        behind_low l _ within,
+      ) refl
