@@ -21,10 +21,9 @@ use Rattle.basic_toml_grow.specs.Headers.{entered_at}
 use Rattle.basic_toml_value.specs.Nesting.{nesting_limit}
 use Rattle.basic_toml_grow.specs.Simple.{with_entries}
 use Rattle.basic_toml_grow.proofs.KeysInATrie.{tries_of, at_entered, with_mapped}
-use Rattle.basic_toml_grow.proofs.ItemTries.{child_item_trie, table_entries_trie}
+use Rattle.basic_toml_grow.proofs.ItemTries.{table_entries_trie}
 use Rattle.basic_toml_grow.proofs.ItemsStand.{shape}
-use Rattle.basic_toml_grow.proofs.HeadersInATrie.{made, Course, course_of}
-use Rattle.basic_toml_grow.proofs.HeadersInATrie.{course, course_at, course_through}
+use Rattle.basic_toml_grow.proofs.HeadersInATrie.{made, Course, course_of, course, course_at, course_through}
 use Rattle.basic_toml_grow.proofs.LatestInATrie.{mapped_twice}
 use Rattle.basic_toml_grow.proofs.ObstaclesPassOn.{behind_low}
 
@@ -49,7 +48,7 @@ pub out_holding : (c : Child) (i : items.Item) → out-Child (holding c i) ≡ r
 out_holding c i = search (rules, the_lemmas)
 
 pub holding_trie : (c : Child) (i : items.Item) → child_trie (holding c i) ≡ item_trie i
-holding_trie c i = child_item_trie (holding c i) ∙ ap (λ o. item_trie o.item) (out_holding c i)
+holding_trie c i = search (rules, the_lemmas)
 
 -- A header of the section n passes a table by a key: the key is there or is new, at this place, and another child
 -- stands at it then.

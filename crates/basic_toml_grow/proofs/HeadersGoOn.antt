@@ -27,8 +27,7 @@ use Rattle.basic_toml_grow.specs.declared.clash.Clash.TheVariants.{Deep, Header}
 use Rattle.basic_toml_grow.specs.Clash.{NamesObstacle}
 use Rattle.basic_toml_grow.specs.Item.{child_trie, item_trie, table_trie, trie_before, is_section}
 use Rattle.basic_toml_grow.specs.Simple.{with_entries}
-use Rattle.basic_toml_grow.specs.Headers.{IsKeptOut, IsNew, highest, is_last}
-use Rattle.basic_toml_grow.specs.Headers.{HasOneMore, steps_by}
+use Rattle.basic_toml_grow.specs.Headers.{IsKeptOut, IsNew, highest, is_last, HasOneMore, steps_by}
 use Rattle.basic_toml_grow.specs.Obstacles.{element_obstacle}
 use Rattle.basic_toml_grow.specs.Origins.{child_origins, item_origins, origins_before, rows_origins, table_within}
 use Rattle.basic_toml_grow.specs.Ways.{way, way_by}
@@ -43,9 +42,8 @@ use Rattle.basic_toml_grow.proofs.HeadersEntered.{holding, holding_trie, other_i
 use Rattle.basic_toml_grow.proofs.HeadersEntered.{passed_table, passed_trie, passed_with, passes}
 use Rattle.basic_toml_grow.proofs.Origins.OriginsSeen.{child_seen, table_item_seen, table_origins}
 use Rattle.basic_toml_grow.proofs.Origins.HeadersPlaceOrigins.{entry_keeps, grows_after, holding_origins, passed_grows}
-use Rattle.basic_toml_grow.proofs.Origins.HeadersPlaceOrigins.{Keeps, new_table_keeps, passed_marks}
-use Rattle.basic_toml_grow.proofs.Origins.ElementsPlaceOrigins.{latest_grows, latest_marks, table_marked}
-use Rattle.basic_toml_grow.proofs.Origins.ElementsPlaceOrigins.{new_array_keeps, more_keeps}
+use Rattle.basic_toml_grow.proofs.Origins.HeadersPlaceOrigins.{Keeps, new_table_keeps, passed_marks, latest_grows}
+use Rattle.basic_toml_grow.proofs.Origins.HeadersPlaceOrigins.{latest_marks, table_marked, new_array_keeps, more_keeps}
 
 -- A child leads on to the item of another, which holds it where the first held its own: what goes on from that item is
 -- what goes on from what stood at the key.

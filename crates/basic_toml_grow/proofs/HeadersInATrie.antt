@@ -114,6 +114,9 @@ pub met_fresh : (a : Bool) (rows : Rows) (keys : KeyTexts) (l : ℕ)
     → keys_obstacle a rows keys l fresh ≡ keys_obstacle a rows keys l nothing
 met_fresh a rows keys l = ap (λ (c : Course). c.met) (course_fresh a rows keys l)
 
+pub way_fresh : (a : Bool) (keys : KeyTexts) → way a keys fresh ≡ way a keys nothing
+way_fresh a keys = ap (λ (c : Course). c.way) (course_fresh a no_rows keys 0)
+
 -- a header's step at a key of a table
 pub course_through : (a : Bool) (rows : Rows) (k : List ℕ) (keys : KeyTexts) (l : ℕ) (p n d : Bool) (ts : Tries)
     → course a rows (k ∷ keys) l (made p n d ts)

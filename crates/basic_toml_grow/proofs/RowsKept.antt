@@ -27,7 +27,7 @@ use Rattle.basic_toml_grow.proofs.ItemTries.{child_item_trie}
 use Rattle.basic_toml_grow.proofs.TablesOpened.{sections_trie}
 use Rattle.basic_toml_grow.proofs.Origins.OriginsSeen.{child_seen, section_item_seen, sections_seen}
 use Rattle.basic_toml_grow.proofs.Origins.HeadersPlaceOrigins.{holding_origins}
-use Rattle.basic_toml_grow.proofs.Origins.ElementsPlaceOrigins.{none_below}
+use Rattle.basic_toml_grow.proofs.Origins.HeadersPlaceOrigins.{none_below}
 
 -- what the code asks of them, for a table of a level
 pub record CanStay (rows : tables.Rows) (level : ℕ) : Type 0 where

@@ -27,7 +27,7 @@ use Rattle.basic_toml_grow.proofs.SimpleRows.{child_made, rows_in}
 use Rattle.basic_toml_grow.proofs.TablesOpened.{section_item_trie, sections_trie, tables_trie}
 use Rattle.basic_toml_grow.proofs.Origins.OriginsSeen.{no_keys_below, section_item_seen, table_seen, sections_seen}
 use Rattle.basic_toml_grow.proofs.Origins.RowsPlaceOrigins.{within}
-use Rattle.basic_toml_grow.proofs.Origins.ElementsPlaceOrigins.{array_below}
+use Rattle.basic_toml_grow.proofs.Origins.HeadersPlaceOrigins.{array_below}
 use Rattle.std.specs.List.{list_all}
 
 -- what a row stands for, as an entry

@@ -24,8 +24,7 @@ use Rattle.basic_toml_grow.specs.Ways.{GrowsAlong, MarksWay}
 use Rattle.basic_toml_grow.proofs.HeadersInATrie.{array_of, entered_on, fresh, rows_entered}
 use Rattle.basic_toml_grow.proofs.TablesOpened.{section_item_trie, sections_trie}
 use Rattle.basic_toml_grow.proofs.Origins.OriginsSeen.{sections_seen, section_item_seen}
-use Rattle.basic_toml_grow.proofs.Origins.HeadersPlaceOrigins.{entry_keeps}
-use Rattle.basic_toml_grow.proofs.Origins.ElementsPlaceOrigins.{numbers_grow, numbers_marked}
+use Rattle.basic_toml_grow.proofs.Origins.HeadersPlaceOrigins.{entry_keeps, numbers_grow, numbers_marked}
 use Rattle.basic_toml_grow.proofs.KeysInATrie.{tries_of}
 use Rattle.basic_toml_grow.proofs.SectionTables.{section_table_trie, section_taken, section_trie}
 

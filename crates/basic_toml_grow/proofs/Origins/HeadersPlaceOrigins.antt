@@ -1,37 +1,38 @@
 -- The way of a header through the tree: what its rows bring comes at the way's end, and headers made what stands on it,
--- of which the section of this one is the latest that leads there.
-use Rattle.std.proofs.Common.{◌≡◌, ℕ, Bool, false, List, [], ◌∷◌, refl, ap, sym, ◌∙◌, Box, Global, true}
-use Rattle.std.specs.Prelude.{◌||◌}
+-- of which the section of this one is the latest that leads there. It goes on into the latest element of an array of
+-- tables, or into one that is added.
+use Rattle.std.proofs.Common.{◌≡◌, ℕ, false, List, [], ◌∷◌, refl, ap, sym, ◌∙◌, Box, Global, true, zero, suc, rules}
+use Rattle.std.proofs.Common.{◌++◌, Option, Some, None, map, arith, length, slice_get, Vec, nat_eq}
+use Rattle.std.specs.Prelude.{◌||◌, if◌then◌else◌}
+use Prim.Native.Nat.compare
 use Rattle.std.specs.Option.{option_or}
 use Rattle.std.specs.Str.{bytes_eq}
 use Rattle.std.proofs.lemmas.Bool.{false≢true, and_parts}
 use Rattle.std.proofs.lemmas.Slice.Eq.{bytes_eq-Decides}
+use Rattle.std.proofs.lemmas.Simd.{map-map}
+use Rattle.std.proofs.lemmas.List.{length-map, map_push}
 use Rattle.basic_toml_index.proofs.DistinctKeys.{bytes_eq-same}
-use Rattle.basic_toml_grammar.specs.Sections.{KeyTexts, no_rows}
 use Rattle.basic_toml_grammar.specs.Steps.{Step, key, Path, begins, number}
-use Rattle.basic_toml_grammar.specs.Trie.{nothing}
-use Rattle.basic_toml_grow.specs.declared.item.Item.{the_lemmas}
+use Rattle.basic_toml_grow.specs.declared.item.Item.{the_lemmas, Tables}
 use Rattle.basic_toml_grow.specs.declared.item.Item as items
 use Rattle.basic_toml_grow.specs.declared.item.Child.{Child, out-Child}
 use Rattle.basic_toml_grow.specs.declared.item.Table.{Table}
 use Rattle.basic_toml_grow.specs.Item.{table_trie}
 use Rattle.basic_toml_value.specs.declared.pairs.growth.Place.{Place}
 use Rattle.basic_toml_grow.specs.Origins.{Origin, Origins, child_origins, entry, item_origins, table_within, no_origins}
-use Rattle.basic_toml_grow.specs.Origins.{origins_before, along}
-use Rattle.basic_toml_grow.specs.Ways.{way, GrowsAlong, IsMarked, MarksWay, MarksTable}
-use Rattle.basic_toml_grow.proofs.HeadersInATrie.{fresh, Course, course_fresh}
-use Rattle.basic_toml_grow.proofs.HeadersEntered.{holding, out_holding, Passes}
-use Rattle.basic_toml_grow.proofs.Origins.OriginsSeen.{child_seen, table_item_seen, table_origins}
-use Rattle.basic_toml_grow.proofs.Origins.OriginsSeen.{fresh_within, grows_at, made_seen, section_seen, stands_now}
-
-pub way_fresh : (a : Bool) (keys : KeyTexts) → way a keys fresh ≡ way a keys nothing
-way_fresh a keys = ap (λ (c : Course). c.way) (course_fresh a no_rows keys 0)
+use Rattle.basic_toml_grow.specs.Origins.{origins_before, along, under, at_numbers, array_origin, Within, of_table}
+use Rattle.basic_toml_grow.specs.Origins.{or_else}
+use Rattle.basic_toml_grow.specs.Ways.{GrowsAlong, IsMarked, MarksWay, MarksTable}
+use Rattle.basic_toml_grow.proofs.HeadersInATrie.{fresh}
+use Rattle.basic_toml_grow.proofs.HeadersEntered.{holding, Passes}
+use Rattle.basic_toml_grow.proofs.Origins.OriginsSeen.{table_item_seen, table_origins, fresh_within}
+use Rattle.basic_toml_grow.proofs.Origins.OriginsSeen.{grows_at, made_seen, section_seen, stands_now, tables_seen}
+use Rattle.basic_toml_grow.proofs.Origins.OriginsSeen.{or_none}
 
 -- a child with another item
 pub holding_origins : (c : Child) (i : items.Item)
     → child_origins (holding c i) ≡ item_origins i (out-Child c).start (out-Child c).section
-holding_origins c i =
-    child_seen (holding c i) ∙ ap (λ o. item_origins o.item o.start o.section) (out_holding c i)
+holding_origins c i = search (rules, the_lemmas)
 
 -- a table that a header passes: what comes into it, and what is marked
 module _ {gives : Child → Type 0} {k : List ℕ} {t u : Table} {p : Place} {there now : Child} {n : ℕ}
@@ -78,3 +79,123 @@ pub new_table_keeps : (w : Path) (t : Box Table Global) (at s : ℕ) → table_t
     → Keeps w no_origins (item_origins (items.Table t) at s)
 new_table_keeps w t at s empty = rw (table_item_seen t at s, fresh_within t.value empty)
     (entry_keeps w no_origins no_origins _ (λ s p not. refl))
+
+-- a table that stands at a key
+pub table_marked : (n : ℕ) (w : Path) (t : Within) (at s : ℕ) → MarksTable n w t → MarksWay n w (of_table at s t)
+table_marked n w t at s marks [] on = (marks.made, ap (λ b. if b then t.section else s) marks.made ∙ marks.section)
+table_marked n w t at s marks (r ∷ p) on = marks.below r p on
+
+-- an element that may stand last
+abbrev pub last_of : Option Origins → List Origins
+last_of None = []
+last_of (Some x) = x ∷ []
+
+-- the elements before the last one are as they were; the last has grown, or is new
+pub numbers_grow : (xs : List Origins) (last : Option Origins) (now rows : Origins) (w : Path)
+    → ((s : Step) (q : Path) → begins (s ∷ q) w ≡ false
+    → now (s ∷ q) ≡ or_else (under (slice_get (last_of last) 0)) (along w rows) (s ∷ q))
+    → GrowsAlong (number (length xs) ∷ w) rows (at_numbers (xs ++ last_of last)) (at_numbers (xs ++ now ∷ []))
+numbers_grow xs last now rows w grows [] not = absurd (false≢true (sym not))
+numbers_grow xs last now rows w grows (key k ∷ q) not = refl
+numbers_grow [] last now rows w grows (number zero ∷ []) not = absurd (false≢true (sym not))
+numbers_grow [] last now rows w grows (number zero ∷ s ∷ q) not = grows s q not
+numbers_grow [] None now rows w grows (number (suc m) ∷ q) not = rw compare.suc-zero refl
+numbers_grow [] (Some x) now rows w grows (number (suc m) ∷ q) not = rw compare.suc-zero refl
+numbers_grow (y ∷ xs) last now rows w grows (number zero ∷ q) not = rw compare.zero-suc (sym (or_none (y q)))
+numbers_grow (y ∷ xs) last now rows w grows (number (suc m) ∷ q) not =
+    rw compare.suc-suc (numbers_grow xs last now rows w grows (number m ∷ q) (rw compare.suc-suc at not))
+
+-- an element from which nothing comes yet, after others
+numbers_keep : (xs : List Origins) (o : Origin)
+    → Keeps (number (length xs) ∷ []) (at_numbers xs) (at_numbers (xs ++ entry o no_origins ∷ []))
+numbers_keep xs o [] not = absurd (false≢true (sym not))
+numbers_keep xs o (key k ∷ q) not = refl
+numbers_keep [] o (number zero ∷ []) not = absurd (false≢true (sym not))
+numbers_keep [] o (number zero ∷ s ∷ q) not = refl
+numbers_keep [] o (number (suc m) ∷ q) not = refl
+numbers_keep (y ∷ xs) o (number zero ∷ q) not = refl
+numbers_keep (y ∷ xs) o (number (suc m) ∷ q) not =
+    numbers_keep xs o (number m ∷ q) (rw compare.suc-suc at not)
+
+added_keeps : (xs : List Origins) (before : Origins) (o q : Origin)
+    → ((s : Step) (p : Path) → at_numbers xs (s ∷ p) ≡ before (s ∷ p))
+    → Keeps (number (length xs) ∷ []) before (entry q (at_numbers (xs ++ entry o no_origins ∷ [])))
+added_keeps xs before o q same =
+    entry_keeps (number (length xs) ∷ []) before (at_numbers (xs ++ entry o no_origins ∷ [])) q
+    (λ s p not. numbers_keep xs o (s ∷ p) not ∙ same s p)
+
+pub none_below : (s : Step) (p : Path) → at_numbers [] (s ∷ p) ≡ None
+none_below (key k) p = refl
+none_below (number n) p = refl
+
+-- what is marked in the last one
+last_is : {A : Type 0} (xs : List A) (x : A) → slice_get (xs ++ x ∷ []) (length xs) ≡ Some x
+last_is [] x = refl
+last_is (y ∷ xs) x = last_is xs x
+
+pub numbers_marked : (n : ℕ) (w : Path) (xs : List Origins) (x : Origins) (o : Origin) → IsMarked n (Some o)
+    → MarksWay n w x → MarksWay n (number (length xs) ∷ w) (entry o (at_numbers (xs ++ x ∷ [])))
+numbers_marked n w xs x o here marks [] on = here
+numbers_marked n w xs x o here marks (key k ∷ q) on = absurd (false≢true on)
+numbers_marked n w xs x o here marks (number i ∷ q) on =
+    let parts = and_parts (nat_eq i (length xs)) (begins q w) on in
+    let same : i ≡ length xs = grind (arith, parts.0) in
+    rw (same, last_is xs x) (marks q parts.1)
+
+-- the elements of an array of tables
+abbrev pub elements_of : ℕ → ℕ → List Table → List Origins
+elements_of at s ts = map (λ t. of_table at s (table_within t)) ts
+
+pub as_many : (at s : ℕ) (ts : List Table) → length (map table_trie ts) ≡ length (elements_of at s ts)
+as_many at s ts = length-map ts table_trie ∙ sym (length-map ts (λ t. of_table at s (table_within t)))
+
+pub array_below : (b : Box (Vec Table Global × Table) Global) (at s : ℕ) → item_origins (Tables b) at s
+    ≡ entry (array_origin at (table_within b.value.1).section)
+    (at_numbers (elements_of at s b.value.0.items ++ of_table at s (table_within b.value.1) ∷ []))
+array_below b at s = rw (tables_seen b at s, map_push, map-map) refl
+
+-- on into the latest element
+pub latest_grows : (old after : Box (Vec Table Global × Table) Global) (w : Path) (rows : Origins)
+    → after.value.0 ≡ old.value.0 → GrowsAlong w rows (table_origins old.value.1) (table_origins after.value.1)
+    → (at s : ℕ) → GrowsAlong (number (length (map table_trie old.value.0.items)) ∷ w) rows
+    (item_origins (Tables old) at s) (item_origins (Tables after) at s)
+latest_grows old after w rows same grows at s =
+    let xs = elements_of at s old.value.0.items in
+    let last = of_table at s (table_within old.value.1) in
+    let now = of_table at s (table_within after.value.1) in
+    rw (array_below old at s, array_below after at s, same, as_many at s old.value.0.items)
+    (entry_keeps (number (length xs) ∷ w) _ (at_numbers (xs ++ now ∷ [])) _
+    (λ r q not. numbers_grow xs (Some last) now rows w (λ r q not. grows (r ∷ q) not) (r ∷ q) not))
+
+pub latest_marks : (old after : Box (Vec Table Global × Table) Global) (n : ℕ) (w : Path) → after.value.0 ≡ old.value.0
+    → MarksTable n w (table_within after.value.1) → (at s : ℕ)
+    → MarksWay n (number (length (map table_trie old.value.0.items)) ∷ w) (item_origins (Tables after) at s)
+latest_marks old after n w same marks at s =
+    rw (array_below after at s, same, as_many at s old.value.0.items)
+    (numbers_marked n w (elements_of at s old.value.0.items) (of_table at s (table_within after.value.1)) _
+    (refl, marks.section) (table_marked n w (table_within after.value.1) at s marks))
+
+-- an array of one new table comes from nowhere yet, but for what is on its way
+pub new_array_keeps : (b : Box (Vec Table Global × Table) Global) (at s : ℕ) → b.value.0.items ≡ []
+    → table_trie b.value.1 ≡ fresh → Keeps (number 0 ∷ []) no_origins (item_origins (Tables b) at s)
+new_array_keeps b at s none empty =
+    rw (array_below b at s, none, fresh_within b.value.1 empty)
+    (added_keeps [] no_origins _ _ none_below)
+
+-- and so does a table that is added to an array
+pub more_keeps : (old after : Box (Vec Table Global × Table) Global) (at s : ℕ)
+    → after.value.0.items ≡ old.value.0.items ++ old.value.1 ∷ [] → table_trie after.value.1 ≡ fresh
+    → Keeps (number (length (map table_trie after.value.0.items)) ∷ []) (item_origins (Tables old) at s)
+    (item_origins (Tables after) at s)
+more_keeps old after at s tables empty =
+    let xs = elements_of at s after.value.0.items in
+    let was : elements_of at s old.value.0.items ++ of_table at s (table_within old.value.1) ∷ [] ≡ xs =
+    sym (rw (tables, map_push) refl) in
+    rw (
+      array_below old at s,
+      array_below after at s,
+      was,
+      fresh_within after.value.1 empty,
+      as_many at s after.value.0.items,
+    )
+    (added_keeps xs (entry _ (at_numbers xs)) _ _ (λ s p. refl))

@@ -1,6 +1,6 @@
 -- A row put into a table: where what it makes comes from.
-use Rattle.std.proofs.Common.{◌≡◌, ℕ, Bool, true, false, List, [], ◌∷◌, ◌++◌, Some, refl, ap}
-use Rattle.std.proofs.Common.{sym, ◌∙◌, ap₂, rules, slice_get, Box, Global}
+use Rattle.std.proofs.Common.{◌≡◌, ℕ, Bool, true, false, List, [], ◌∷◌, ◌++◌, Some, refl, ap, sym, ◌∙◌, ap₂, rules}
+use Rattle.std.proofs.Common.{slice_get, Box, Global}
 use Rattle.std.proofs.Math.Path.{fun_ext}
 use Rattle.basic_toml_grammar.specs.Sections.{KeyTexts}
 use Rattle.basic_toml_grammar.specs.Steps.{key, Path}
@@ -12,13 +12,12 @@ use Rattle.basic_toml_grow.specs.declared.item.Table.{Table, out-Table}
 use Rattle.basic_toml_grow.specs.Simple.{with_entries}
 use Rattle.basic_toml_value.specs.Growth.{with_value, values_of, FindsOrAdds}
 use Rattle.basic_toml_value.specs.declared.pairs.growth.Place.{Place}
-use Rattle.basic_toml_grow.specs.Origins.{Origin, Origins, no_origins, entry, Within, table_origin}
-use Rattle.basic_toml_grow.specs.Origins.{child_origins, of_table, section_in}
-use Rattle.basic_toml_grow.specs.Origins.{table_within, with_more, or_else, origins_before, beyond, row_origins}
+use Rattle.basic_toml_grow.specs.Origins.{Origin, Origins, no_origins, entry, Within, table_origin, child_origins}
+use Rattle.basic_toml_grow.specs.Origins.{of_table, section_in, table_within, with_more, or_else, origins_before}
+use Rattle.basic_toml_grow.specs.Origins.{beyond, row_origins}
 use Rattle.basic_toml_grow.proofs.ItemTries.{entries_with}
 use Rattle.basic_toml_grow.proofs.KeysInATrie.{with_same}
-use Rattle.basic_toml_grow.proofs.Origins.OriginsSeen.{child_seen, table_seen, table_item_seen}
-use Rattle.basic_toml_grow.proofs.Origins.OriginsSeen.{grows_at}
+use Rattle.basic_toml_grow.proofs.Origins.OriginsSeen.{child_seen, table_seen, table_item_seen, grows_at}
 use Rattle.basic_toml_grow.proofs.MetTellsStop.{dotted_fields}
 
 pub origins_on : (k : List ℕ) (ks : KeyTexts) (last : List ℕ) (o : Origin) (below : Origins)

@@ -5,7 +5,6 @@ use Rattle.std.proofs.lemmas.Bool.{false≢true}
 use Rattle.basic_toml_read.specs.declared.section.Raw as raws
 use Rattle.basic_toml_read.specs.declared.section.Rows as tables
 use Rattle.basic_toml_read.specs.SectionView.{header_texts, rows_view}
-use Rattle.basic_toml_plain.specs.Plain.{are_few_simple}
 use Rattle.basic_toml_plain.specs.PlainTables.{with_table}
 use Rattle.basic_toml_plain.proofs.PlainValues.{few_lower}
 use Rattle.basic_toml_plain.proofs.WhatIsLeft.{nothing_left}
@@ -13,8 +12,7 @@ use Rattle.basic_toml_grow.specs.declared.item.Item as items
 use Rattle.basic_toml_grow.specs.declared.item.Item.TheViews.{out-Item}
 use Rattle.basic_toml_grow.specs.Headers.{is_last}
 use Rattle.basic_toml_grow.proofs.HeadersGoOn.{Leads, from_deep_value, from_item, from_key, from_latest, from_none}
-use Rattle.basic_toml_grow.proofs.HeadersGoOn.{from_table, from_value, lead, lead_more, new_stays}
-use Rattle.basic_toml_grow.proofs.HeadersGoOn.{not_last}
+use Rattle.basic_toml_grow.proofs.HeadersGoOn.{from_table, from_value, lead, lead_more, new_stays, not_last}
 use Rattle.basic_toml_grow.proofs.RowsKept.{CanStay, back_view, can_stay, stay_at_key, stay_in_first, stay_in_next}
 use Rattle.basic_toml_grow.proofs.headers.+walk.Goals as goal
 use Rattle.basic_toml_grow.proofs.headers.+walk.Goals.{enter_at-else-is_array, enter_element-In_ok-place}
@@ -65,8 +63,7 @@ stay_last t c = can_stay c.args.rows.now (c.args.level + 1) c.is_empty.ensures c
 pub enter_last-new-requires : goal.enter_last-new-requires
 enter_last-new-requires t c =
     let stay = stay_last t (goal.at.enter_last-new-requires t c).In_ok-kept in
-    few_lower c.in_ok-kept.kept.items (c.args.level + 1)
-    (ap (are_few_simple (c.args.level + 1)) c.in_ok-kept.ensures.tail ∙ stay.few)
+    rw c.in_ok-kept.ensures.tail (few_lower _ _ stay.few)
 
 pub enter_last-returns-then-place : goal.enter_last-returns-then-place
 enter_last-returns-then-place t c =
@@ -92,13 +89,11 @@ stay_element t c = can_stay c.args.rows.now (c.args.level + 2) c.is_empty.ensure
 
 pub enter_element-new-requires : goal.enter_element-new-requires
 enter_element-new-requires t c =
-    few_lower (tables.out-Rows c.args.rows.now).rows.items (c.args.level + 2)
-    (stay_element t (goal.at.enter_element-new-requires t c).In_ok-place).few
+    few_lower _ _ (stay_element t (goal.at.enter_element-new-requires t c).In_ok-place).few
 
 pub enter_element-push-requires : goal.enter_element-push-requires
 enter_element-push-requires t c =
-    few_lower (tables.out-Rows c.args.rows.now).rows.items (c.args.level + 2)
-    (stay_element t (goal.at.enter_element-push-requires t c).In_ok-place).few
+    few_lower _ _ (stay_element t (goal.at.enter_element-push-requires t c).In_ok-place).few
 
 -- the first one
 pub enter_element-returns-then-place : goal.enter_element-returns-then-place
