@@ -66,40 +66,32 @@ lead {a = a} {rows = rows} {keys = keys} {l = l} false {mid = mid} own new not =
   keeps = λ at s p aside. refl;
 }
 lead {a = true} {rows = rows} {keys = []} {l = l} true {mid = mid} own new not =
-    let array = new refl in
-    let is : item_trie (out-Child mid).item ≡ array_of [] fresh =
-    rw (array.is, tables_trie array.array, array.none, array.empty) refl in record {
+    let array = new refl in record {
       item = (out-Child mid).item;
       holds = own ∙ search (rules, items.the_lemmas);
-      same = ap (course_by true rows [] l) (sym is);
-      keeps = λ at s. rw (is, array.is) (new_array_keeps array.array at s array.none array.empty);
+      same = rw (array.is, tables_trie array.array, array.none, array.empty) refl;
+      keeps = λ at s. rw (array.is, tables_trie array.array, ap (map table_trie) array.none)
+          (new_array_keeps array.array at s array.none array.empty);
     }
 lead {a = a} {rows = rows} {keys = keys} {l = l} true {mid = mid} own new not =
-    let table = new refl in
-    let is : item_trie (out-Child mid).item ≡ fresh = rw (table.is, table_item_trie table.table, table.empty) refl in
-    record {
+    let table = new refl in record {
       item = (out-Child mid).item;
       holds = own ∙ search (rules, items.the_lemmas);
-      same = no_last a rows keys l nothing refl ∙ sym (ap in_table (course_fresh a rows keys l))
-          ∙ ap (course_by a rows keys l) (sym is);
+      same = rw (table.is, table_item_trie table.table, table.empty)
+          (no_last a rows keys l nothing refl ∙ sym (ap in_table (course_fresh a rows keys l)));
       keeps = λ at s. rw table.is (new_table_keeps _ table.table at s table.empty);
     }
 
 pub lead_more : {rows : Rows} {l : ℕ} {mid there : Child} {i : Item} → there ≡ holding mid i
     → HasOneMore (out-Child mid).item i → Leads true rows [] l false mid there
-lead_more {rows} {l} {mid} {there} {i} holds one =
-    let tables = one.after.value.0.items in
-    let was = ap item_trie one.was ∙ tables_trie one.before in
-    let is = ap item_trie one.is ∙ tables_trie one.after ∙ ap (array_of (map table_trie tables)) one.empty in
-    let more = ap (map table_trie) one.tables
-    ∙ map-append table_trie one.before.value.0.items (one.before.value.1 ∷ []) in
-    record {
-      item = i;
-      holds = holds;
-      same = ap (course_at true rows [] l) was ∙ course_next rows l _ _
-          ∙ ap (course_by true rows [] l) (sym (is ∙ ap (λ ts. array_of ts fresh) more));
-      keeps = λ at s. rw (is, one.was, one.is) (more_keeps one.before one.after at s one.tables one.empty);
-    }
+lead_more {rows} {l} {mid} {there} {i} holds one = record {
+  item = i;
+  holds = holds;
+  same = rw (one.was, tables_trie one.before, one.is, tables_trie one.after, one.empty, one.tables, map-append)
+      (course_next rows l _ _);
+  keeps = λ at s. rw (one.was, one.is, tables_trie one.after)
+      (more_keeps one.before one.after at s one.tables one.empty);
+}
 
 -- what is no array's last key
 pub not_last : (a : Bool) (keys : List code.Key) → 1 ≤ length keys → is_last a (header_texts keys) ≡ false
@@ -241,8 +233,7 @@ from_item {a} {rows} {keys} {level} {n} {is_new} {old} {mid} {there} {item} {r} 
       origins = rw (now_is, ← same, child_item_trie mid, way_is, ← came, child_seen mid)
           (IfOk-weaker r _ _ (λ x grows. grows_after (way_by a keys (item_trie on.item)) (rows_origins n rows) _ _ _
           (on.keeps at s) (grows at s)) takes.origins);
-      marks = rw (now_is, ← same, child_item_trie mid, way_is)
-          (IfOk-weaker r _ _ (λ x marks. marks at s) takes.marks);
+      marks = rw (now_is, ← same, child_item_trie mid, way_is) (IfOk-weaker r _ _ (λ x marks. marks at s) takes.marks);
     }
 
 -- A child to which no table is added leads on to nothing.
