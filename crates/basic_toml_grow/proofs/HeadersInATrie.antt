@@ -66,10 +66,6 @@ pub record Course : Type 0 where
 abbrev pub course_of : Option Trie → ℕ → Option Obstacle → Path → Course
 course_of e n o w = record { entered = e; steps = n; met = o; way = w }
 
-pub same_course : {e f : Option Trie} {m n : ℕ} {o p : Option Obstacle} {v w : Path} → e ≡ f → m ≡ n → o ≡ p → v ≡ w
-    → course_of e m o v ≡ course_of f n p w
-same_course e n o w = cc
-
 -- from a table of a level, from what stands at a key of one that is on the level before, and from what stood there
 abbrev pub course : Bool → Rows → KeyTexts → ℕ → Trie → Course
 course a rows keys l t =
@@ -151,8 +147,7 @@ pub course_latest : (a : Bool) (rows : Rows) (keys : KeyTexts) (l m : ℕ) (befo
     → course_by a rows keys l (array_of before t) ≡ in_latest before (course a rows keys m t)
 course_latest a rows keys l m before t next =
     let latest = (at_latest 0 (length before) before t (omega arith)).0 in
-    same_course (enter_latest a rows keys before t) (rw latest refl)
-    (rw (latest, array_aside a rows keys l t, next) refl) (rw latest refl)
+    rw (enter_latest a rows keys before t, latest, array_aside a rows keys l t, next) refl
 
 -- one more element than some tables
 pub put_next : (rows : Rows) (before : List Trie) (t : Trie)
@@ -167,10 +162,10 @@ pub course_next : (rows : Rows) (l : ℕ) (before : List Trie) (t : Trie)
     → course_at true rows [] l (array_of before t) ≡ course_by true rows [] l (array_of (before ++ t ∷ []) fresh)
 course_next rows l before t =
     let more = before ++ t ∷ [] in
-    let len : suc (length before) ≡ length more = omega (arith, length-append before (t ∷ [])) in
-    same_course (put_next rows before t ∙ sym (enter_latest true rows [] more fresh)) refl
-    (rw ((at_next 0 (suc (length before)) more (omega arith)).0, (at_latest 0 (length more) more fresh (omega arith)).0)
-    refl) (ap (λ n. number n ∷ []) len)
+    let len : length more ≡ suc (length before) = omega (arith, length-append before (t ∷ [])) in
+    let next = (at_next 0 (suc (length before)) more (omega arith)).0 in
+    let latest = (at_latest 0 (suc (length before)) more fresh (omega arith)).0 in
+    rw (put_next rows before t, enter_latest true rows [] more fresh, len, next, latest) refl
 
 -- a value bars a header
 pub course_barred : (a : Bool) (rows : Rows) (keys : KeyTexts) (l : ℕ) (d : Data) → l ≤ nesting_limit

@@ -44,11 +44,7 @@ pub header_fault_is : (s : Section) (left n : ℕ) (key : List ℕ) (offset : �
     → path ≡ header_texts (take n s.header.items)
     → fault_within (duplicate_key key) offset path ≡ stop_fault (section_of s) (at_header left)
 header_fault_is s left n key offset path number is_key is_path =
-    let at : length (section_of s).header - left ≡ n =
-    ap (λ m. m - left) (length-map s.header.items key_of) ∙ sym number in
-    let first : texts (take n (section_of s).header) ≡ path =
-    ap texts (take-map key_of n s.header.items) ∙ sym is_path in
-    rw (at, first, is_key) refl
+    rw (length-map, ← number, take-map, ← is_path, is_key) refl
 
 -- keys joined by periods, and one more
 join_more : (p k : List ℕ) (ps : KeyTexts)

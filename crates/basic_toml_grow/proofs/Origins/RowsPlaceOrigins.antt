@@ -53,9 +53,8 @@ pub origins_added : {gives : Child → Type 0} (before : Table) (k : List ℕ) (
     → slice_get (values_of new) p.position ≡ Some there → p.is_new ≡ true
     → table_within (with_entries before new) ≡ with_more (table_within before) (beyond (key k) (child_origins there))
 origins_added before k there new p e stands is_new =
-    origins_put before k there there new p e stands (child_origins there)
-    (ap (λ b. or_else (origins_before b (child_origins there)) (child_origins there)) (sym is_new))
-    (with_entries before new) (ap (with_entries before) (sym (with_same new p.position there stands)))
+    origins_put before k there there new p e stands (child_origins there) (rw is_new refl) (with_entries before new)
+    (rw (with_same new p.position there stands) refl)
 
 -- an origin here, and what comes below it beside what was there; and what comes below a new table
 or_entry : (o u : Origin) (f g : Origins) → entry o (or_else f g) ≡ or_else (entry o f) (entry u g)
