@@ -50,9 +50,7 @@ header_fault_is s left n key offset path number is_key is_path =
 join_more : (p k : List ℕ) (ps : KeyTexts)
     → join_with_byte period (p ∷ ps ++ k ∷ []) ≡ join_with_byte period (p ∷ ps) ++ period ∷ k
 join_more p k [] = refl
-join_more p k (q ∷ ps) =
-    ap (λ l. p ++ period ∷ l) (join_more q k ps)
-    ∙ sym (append_assoc p (period ∷ join_with_byte period (q ∷ ps)) (period ∷ k))
+join_more p k (q ∷ ps) = rw (join_more q k ps, append_assoc) refl
 
 pub joined_first : (keys : KeyTexts) (n : ℕ) (k name : List ℕ) → n ≡ 0 → n < length keys → k ≡ get_or keys n k
     → name ≡ join_with_byte period (take n keys) → name ++ k ≡ join_with_byte period (take (n + 1) keys)

@@ -41,11 +41,9 @@ module _ {gives : Child → Type 0} (before : Table) (k : List ℕ) (there child
       → table_within after ≡ with_more (table_within before) (beyond (key k) below)
   origins_put after same =
       let put = with_value new p.position child in
-      ap table_within same
-      ∙ within_is (table_within (with_entries before put)) (with_more (table_within before) (beyond (key k) below))
-      (search (rules, the_lemmas)) (search (rules, the_lemmas))
+      rw same (within_is _ _ (search (rules, the_lemmas)) (search (rules, the_lemmas))
       (λ q. grows_at before (with_entries before put) there child k new p e stands (entries_with before put) below q
-      (λ r is. ap (λ f. f r) comes))
+      (λ r is. ap (λ f. f r) comes)))
 
 -- a table with a new key
 pub origins_added : {gives : Child → Type 0} (before : Table) (k : List ℕ) (there : Child)

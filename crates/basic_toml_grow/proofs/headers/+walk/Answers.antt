@@ -15,11 +15,7 @@ use Rattle.basic_toml_grow.proofs.HeadersGoOn.{Leads, from_deep_value, from_item
 use Rattle.basic_toml_grow.proofs.HeadersGoOn.{from_table, from_value, lead, lead_more, new_stays, not_last}
 use Rattle.basic_toml_grow.proofs.RowsKept.{CanStay, back_view, can_stay, stay_at_key, stay_in_first, stay_in_next}
 use Rattle.basic_toml_grow.proofs.headers.+walk.Goals as goal
-use Rattle.basic_toml_grow.proofs.headers.+walk.Goals.{enter_at-else-is_array, enter_element-In_ok-place}
-use Rattle.basic_toml_grow.proofs.headers.+walk.Goals.{enter_at-then-is_array+then-is_empty+then-not-is_new+in_ok-add_table}
-use Rattle.basic_toml_grow.proofs.headers.+walk.Goals.{enter_at-else-is_array-via-then-is_array+then-is_empty+else-not-is_new}
-use Rattle.basic_toml_grow.proofs.headers.+walk.Goals.{enter_at-else-is_array-via-then-is_array+else-is_empty}
-use Rattle.basic_toml_grow.proofs.headers.+walk.Goals.{enter_at-else-is_array-via-else-is_array, enter_last-In_ok-kept}
+use Rattle.basic_toml_grow.proofs.headers.+walk.Goals.{enter_element-In_ok-place, enter_last-In_ok-kept}
 
 -- what stands at a key leads on to the item from which the code goes on
 leads : (t : ℕ) (c : goal.enter_at-After-enter_item t)
@@ -30,16 +26,16 @@ leads t c =
     let new = new_stays (is_last c.args.is_array (header_texts keys)) c.unfold.new.self c.args.there.now c.args.is_new
     c.in_ok-unfold.ensures.others c.requires.new in
     elim c.if-is_array.branch [
-      | enter_at-then-is_array+then-is_empty+then-not-is_new+in_ok-add_table w ↦
+      | goal.enter_at-then-is_array+then-is_empty+then-not-is_new+in_ok-add_table w ↦
           let none = nothing_left keys (grind (arith, w.is_empty.ensures, w.if-is_empty.true)) in
           rw (w.if-is_array.true, none, w.if-not-is_new.true)
           (lead_more w.there-is w.in_ok-add_table.ensures.more)
-      | enter_at-else-is_array w ↦ elim w.else-is_array.branch [
-        | enter_at-else-is_array-via-then-is_array+then-is_empty+else-not-is_new v ↦
+      | goal.enter_at-else-is_array w ↦ elim w.else-is_array.branch [
+        | goal.enter_at-else-is_array-via-then-is_array+then-is_empty+else-not-is_new v ↦
             lead _ w.there-is new (λ not. absurd (false≢true (sym not ∙ v.if-not-is_new.false)))
-        | enter_at-else-is_array-via-then-is_array+else-is_empty v ↦
+        | goal.enter_at-else-is_array-via-then-is_array+else-is_empty v ↦
             lead _ w.there-is new (λ not. not_last _ keys (grind (arith, v.is_empty.ensures, v.if-is_empty.false)))
-        | enter_at-else-is_array-via-else-is_array v ↦
+        | goal.enter_at-else-is_array-via-else-is_array v ↦
             lead _ w.there-is new (λ not. ap (λ b. is_last b (header_texts keys)) v.if-is_array.false)
       ]
     ]
