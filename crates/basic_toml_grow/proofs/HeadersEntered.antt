@@ -1,7 +1,6 @@
 -- The way of a header through tables and what stands in them, as contracts say it.
 use Rattle.std.proofs.Common.{◌≡◌, ◌≤◌, ℕ, ◌+◌, Bool, true, false, List, ◌∷◌, Some, refl, ap, sym, ◌∙◌, rules}
-use Rattle.std.proofs.Common.{option_map, Vec, Box, Global, subst}
-use Rattle.std.specs.List.{slice_get}
+use Rattle.std.proofs.Common.{option_map, Vec, Box, Global, subst, slice_get}
 use Rattle.basic_toml_value.specs.Data.{Data}
 use Rattle.basic_toml_grammar.specs.Sections.{KeyTexts, Rows}
 use Rattle.basic_toml_grammar.specs.Trie.{Trie}
@@ -13,7 +12,6 @@ use Rattle.basic_toml_grow.specs.declared.item.Item.TheOpen.{Item-F}
 use Rattle.basic_toml_grow.specs.declared.item.Item.TheViews.{out-Item, roll-Child, roll-Table}
 use Rattle.basic_toml_grow.specs.declared.item.Child.{Child, out-Child}
 use Rattle.basic_toml_grow.specs.declared.item.Table.{Table, out-Table}
-use Rattle.std.proofs.lemmas.Bool.{false≢true}
 use Rattle.basic_toml_grow.specs.Item.{item_trie, child_trie, table_trie, trie_before, holds_section, is_section}
 use Rattle.basic_toml_value.specs.Growth.{FindsOrAdds, with_value, values_of}
 use Rattle.basic_toml_value.specs.declared.pairs.growth.Place.{Place}
@@ -36,8 +34,8 @@ other_is_leaf i no_section no_table no_tables = (tree_data (item_trie i), go (ou
     go : (x : Item-F items.Item Child Table) → out-Item i ≡ x → item_trie i ≡ leaf (tree_data (item_trie i))
     go (Item-F.Table t) e = absurd (no_table t (shape i (Item-F.Table t) e ∙ search (rules, the_lemmas)))
     go (Item-F.Tables b) e = absurd (no_tables b (shape i (Item-F.Tables b) e ∙ search (rules, the_lemmas)))
-    go (Item-F.Section rows) e = absurd (false≢true (sym no_section ∙ ap holds_section e))
-    go (Item-F.Sections b) e = absurd (false≢true (sym no_section ∙ ap holds_section e))
+    go (Item-F.Section rows) e = absurd (cc (no_section, ap holds_section e))
+    go (Item-F.Sections b) e = absurd (cc (no_section, ap holds_section e))
     go x e = subst (λ j. item_trie j ≡ leaf (tree_data (item_trie j))) (sym (shape i x e)) (search (rules, the_lemmas))
 
 -- a child with another item

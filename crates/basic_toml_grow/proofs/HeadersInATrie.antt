@@ -2,7 +2,7 @@
 use Rattle.std.proofs.Common.{◌≡◌, inl, inr, ℕ, suc, ◌+◌, ◌<◌, ◌≤◌, Bool, true, false, List, [], ◌∷◌, ◌++◌, length}
 use Rattle.std.proofs.Common.{Option, Some, None, Result, Ok, Err, refl, ap, sym, ◌∙◌, arith, option_map, length-append}
 use Rattle.std.specs.Option.{option_or}
-use Rattle.std.proofs.lemmas.Bool.{cases_lt, false≢true}
+use Rattle.std.proofs.lemmas.Bool.{cases_lt}
 use Rattle.basic_toml_value.specs.Nesting.{nesting_limit}
 use Rattle.basic_toml_value.specs.Data.{Data}
 use Rattle.basic_toml_grammar.specs.Sections.{KeyTexts, Rows, no_rows}
@@ -82,7 +82,7 @@ course_at a rows keys l t =
 -- where no element is added, it goes by the keys alone
 pub no_last : (a : Bool) (rows : Rows) (keys : KeyTexts) (l : ℕ) (t : Trie) → is_last a keys ≡ false
     → course_at a rows keys l t ≡ course_by a rows keys l t
-no_last true rows [] l t not = absurd (false≢true (sym not))
+no_last true rows [] l t not = absurd (cc)
 no_last _ rows _ l t not = refl
 
 -- a table that stands at a key, and the latest of some tables

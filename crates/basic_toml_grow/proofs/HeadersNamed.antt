@@ -4,7 +4,7 @@ use Rattle.std.proofs.Common.{refl, sym, ap, ◌∙◌, arith}
 use Rattle.std.specs.List.{join_with_byte}
 use Rattle.std.proofs.lemmas.List.{append_assoc, length-map, take-map, take_more}
 use Rattle.basic_toml_tokens.specs.Ascii.{period}
-use Rattle.basic_toml_grammar.specs.Sections.{KeyTexts, texts}
+use Rattle.basic_toml_grammar.specs.Sections.{KeyTexts}
 use Rattle.basic_toml_grammar.specs.Faults.{duplicate_key}
 use Rattle.basic_toml_grammar.specs.NamedClash.{nth_key}
 use Rattle.basic_toml_grammar.specs.Stops.{at_header, stop_fault}

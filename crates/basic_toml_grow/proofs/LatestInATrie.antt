@@ -1,6 +1,6 @@
 -- The tables of an array of tables in its trie: what is at the latest number, and at the next one.
-use Rattle.std.proofs.Common.{◌≡◌, ℕ, suc, ◌+◌, List, [], ◌∷◌, ◌++◌, length, Option, Some, None, true, false}
-use Rattle.std.proofs.Common.{refl, arith, nat_eq, option_map}
+use Rattle.std.proofs.Common.{◌≡◌, ℕ, suc, ◌+◌, List, [], ◌∷◌, ◌++◌, length, Option, Some, None, true, false, refl}
+use Rattle.std.proofs.Common.{arith, nat_eq, option_map}
 use Rattle.basic_toml_grammar.specs.Steps.{number}
 use Rattle.basic_toml_grammar.specs.Trie.{Trie, nothing, among, find}
 use Rattle.basic_toml_grow.specs.Item.{by_numbers}

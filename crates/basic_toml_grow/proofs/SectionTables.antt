@@ -19,8 +19,8 @@ use Rattle.basic_toml_grow.specs.declared.item.Item.{the_lemmas, Tables}
 use Rattle.basic_toml_grow.specs.declared.item.Item as items
 use Rattle.basic_toml_grow.specs.declared.item.Table.{Table, out-Table}
 use Rattle.basic_toml_grow.specs.Item.{item_trie, child_trie, table_trie}
-use Rattle.basic_toml_grow.specs.Origins.{child_origins, item_origins, of_table, rows_origins, table_within}
-use Rattle.basic_toml_grow.specs.Origins.{at_keys, value_origins, section_origins as origins_of_section}
+use Rattle.basic_toml_grow.specs.Origins.{child_origins, item_origins, of_table, rows_origins, table_within, at_keys}
+use Rattle.basic_toml_grow.specs.Origins.{value_origins, section_origins as origins_of_section}
 use Rattle.basic_toml_grow.proofs.ItemTries.{table_entries_trie}
 use Rattle.basic_toml_grow.proofs.KeysInATrie.{tries_of}
 use Rattle.basic_toml_grow.proofs.SimpleRows.{child_made, rows_in}

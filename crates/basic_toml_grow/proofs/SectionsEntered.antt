@@ -1,9 +1,8 @@
 -- The rows of a section, kept as they were read in the table of its header, which is new, or is added to an array of
 -- tables of which each keeps its rows so.
-use Rattle.std.proofs.Common.{◌≡◌, ◌≤◌, ◌+◌, ℕ, true, List, [], ◌∷◌, ◌++◌, map, length, refl, ap, sym, ◌∙◌, option_map}
+use Rattle.std.proofs.Common.{◌≡◌, ◌≤◌, ◌+◌, ℕ, true, List, [], ◌∷◌, ◌++◌, map, length, refl, ap, ◌∙◌, option_map}
 use Rattle.std.proofs.Common.{Box, Global, None, Ok}
 use Rattle.std.specs.Option.{option_or}
-use Rattle.std.proofs.lemmas.Bool.{false≢true}
 use Rattle.std.proofs.lemmas.List.{append-nil, length-map}
 use Rattle.basic_toml_value.specs.Nesting.{nesting_limit}
 use Rattle.basic_toml_grammar.specs.Steps.{Step, number, Path}
@@ -47,7 +46,7 @@ module _ (s : ℕ) (rows : List Row) where
 
   pub section_marks : (at : ℕ) → MarksWay s [] (section_origins at (s, rows))
   section_marks at [] on = (refl, refl)
-  section_marks at (r ∷ p) on = absurd (false≢true on)
+  section_marks at (r ∷ p) on = absurd (cc)
 
 abbrev pub tries : List SectionTable → List Trie
 tries ts = map (λ t. rows_trie t.1) ts
@@ -75,7 +74,7 @@ module _ (s level : ℕ) (rows : List Row) (b : Box SectionTables Global) (befor
     pub added_grows : (came : Origins) → ((r : Step) (p : Path) → came (r ∷ p) ≡ at_numbers others (r ∷ p))
         → GrowsAlong (number (length before) ∷ []) (rows_origins s (seen s rows)) came
         (item_origins (items.Sections b) at z)
-    added_grows came same [] not = absurd (false≢true (sym not))
+    added_grows came same [] not = absurd (cc)
     added_grows came same (r ∷ p) not =
         let counted = length-map before (section_origins at) in
         let brought = rows_origins s (seen s rows) in

@@ -1,6 +1,6 @@
 -- The table that a header names, and the array of tables that it adds an element to, as contracts say it.
-use Rattle.std.proofs.Common.{◌≡◌, ℕ, ◌≤◌, true, false, List, [], map}
-use Rattle.std.proofs.Common.{refl, add-zero, rules, Some, None, Vec, Box, Global, Result}
+use Rattle.std.proofs.Common.{◌≡◌, ℕ, ◌≤◌, true, false, List, [], map, refl, add-zero, rules, Some, None, Vec, Box}
+use Rattle.std.proofs.Common.{Global, Result}
 use Rattle.std.proofs.lemmas.List.{length-map}
 use Rattle.basic_toml_value.specs.Nesting.{nesting_limit}
 use Rattle.basic_toml_grammar.specs.Sections.{Rows}

@@ -2,12 +2,11 @@
 -- of which the section of this one is the latest that leads there. It goes on into the latest element of an array of
 -- tables, or into one that is added.
 use Rattle.std.proofs.Common.{◌≡◌, ℕ, false, List, [], ◌∷◌, refl, ap, sym, ◌∙◌, Box, Global, true, zero, suc, rules}
-use Rattle.std.proofs.Common.{◌++◌, Option, Some, None, map, arith, length, slice_get, Vec, nat_eq}
-use Rattle.std.specs.Prelude.{◌||◌, if◌then◌else◌}
+use Rattle.std.proofs.Common.{◌++◌, Option, Some, None, map, arith, length, slice_get, Vec, nat_eq, ◌||◌, if◌then◌else◌}
+use Rattle.std.proofs.Common.{bytes_eq}
 use Prim.Native.Nat.compare
 use Rattle.std.specs.Option.{option_or}
-use Rattle.std.specs.Str.{bytes_eq}
-use Rattle.std.proofs.lemmas.Bool.{false≢true, and_parts}
+use Rattle.std.proofs.lemmas.Bool.{and_parts}
 use Rattle.std.proofs.lemmas.Slice.Eq.{bytes_eq-Decides}
 use Rattle.std.proofs.lemmas.Simd.{map-map}
 use Rattle.std.proofs.lemmas.List.{length-map, map_push}
@@ -25,9 +24,8 @@ use Rattle.basic_toml_grow.specs.Origins.{or_else}
 use Rattle.basic_toml_grow.specs.Ways.{GrowsAlong, IsMarked, MarksWay, MarksTable}
 use Rattle.basic_toml_grow.proofs.HeadersInATrie.{fresh}
 use Rattle.basic_toml_grow.proofs.HeadersEntered.{holding, Passes}
-use Rattle.basic_toml_grow.proofs.Origins.OriginsSeen.{table_item_seen, table_origins, fresh_within}
-use Rattle.basic_toml_grow.proofs.Origins.OriginsSeen.{grows_at, made_seen, section_seen, stands_now, tables_seen}
-use Rattle.basic_toml_grow.proofs.Origins.OriginsSeen.{or_none}
+use Rattle.basic_toml_grow.proofs.Origins.OriginsSeen.{table_item_seen, table_origins, fresh_within, grows_at}
+use Rattle.basic_toml_grow.proofs.Origins.OriginsSeen.{made_seen, section_seen, stands_now, tables_seen, or_none}
 
 -- a child with another item
 pub holding_origins : (c : Child) (i : items.Item)
@@ -52,7 +50,7 @@ module _ {gives : Child → Type 0} {k : List ℕ} {t u : Table} {p : Place} {th
   }
     where
       below : (s : Step) (q : Path) → begins (s ∷ q) (key k ∷ w) ≡ true → IsMarked n (table_origins u (s ∷ q))
-      below (number m) q on = absurd (false≢true on)
+      below (number m) q on = absurd (cc)
       below (key l) q on =
           let parts = and_parts (bytes_eq l k) (begins q w) on in
           let same : l ≡ k = (bytes_eq-Decides l k).0 parts.0 in
@@ -72,7 +70,7 @@ grows_after w rows before mid now keeps grows p not =
 
 pub entry_keeps : (w : Path) (before now : Origins) (o : Origin)
     → ((s : Step) (p : Path) → begins (s ∷ p) w ≡ false → now (s ∷ p) ≡ before (s ∷ p)) → Keeps w before (entry o now)
-entry_keeps w before now o keeps [] not = absurd (false≢true (sym not))
+entry_keeps w before now o keeps [] not = absurd (cc)
 entry_keeps w before now o keeps (s ∷ p) not = keeps s p not
 
 pub new_table_keeps : (w : Path) (t : Box Table Global) (at s : ℕ) → table_trie t.value ≡ fresh
@@ -95,9 +93,9 @@ pub numbers_grow : (xs : List Origins) (last : Option Origins) (now rows : Origi
     → ((s : Step) (q : Path) → begins (s ∷ q) w ≡ false
     → now (s ∷ q) ≡ or_else (under (slice_get (last_of last) 0)) (along w rows) (s ∷ q))
     → GrowsAlong (number (length xs) ∷ w) rows (at_numbers (xs ++ last_of last)) (at_numbers (xs ++ now ∷ []))
-numbers_grow xs last now rows w grows [] not = absurd (false≢true (sym not))
+numbers_grow xs last now rows w grows [] not = absurd (cc)
 numbers_grow xs last now rows w grows (key k ∷ q) not = refl
-numbers_grow [] last now rows w grows (number zero ∷ []) not = absurd (false≢true (sym not))
+numbers_grow [] last now rows w grows (number zero ∷ []) not = absurd (cc)
 numbers_grow [] last now rows w grows (number zero ∷ s ∷ q) not = grows s q not
 numbers_grow [] None now rows w grows (number (suc m) ∷ q) not = rw compare.suc-zero refl
 numbers_grow [] (Some x) now rows w grows (number (suc m) ∷ q) not = rw compare.suc-zero refl
@@ -108,9 +106,9 @@ numbers_grow (y ∷ xs) last now rows w grows (number (suc m) ∷ q) not =
 -- an element from which nothing comes yet, after others
 numbers_keep : (xs : List Origins) (o : Origin)
     → Keeps (number (length xs) ∷ []) (at_numbers xs) (at_numbers (xs ++ entry o no_origins ∷ []))
-numbers_keep xs o [] not = absurd (false≢true (sym not))
+numbers_keep xs o [] not = absurd (cc)
 numbers_keep xs o (key k ∷ q) not = refl
-numbers_keep [] o (number zero ∷ []) not = absurd (false≢true (sym not))
+numbers_keep [] o (number zero ∷ []) not = absurd (cc)
 numbers_keep [] o (number zero ∷ s ∷ q) not = refl
 numbers_keep [] o (number (suc m) ∷ q) not = refl
 numbers_keep (y ∷ xs) o (number zero ∷ q) not = refl
@@ -136,7 +134,7 @@ last_is (y ∷ xs) x = last_is xs x
 pub numbers_marked : (n : ℕ) (w : Path) (xs : List Origins) (x : Origins) (o : Origin) → IsMarked n (Some o)
     → MarksWay n w x → MarksWay n (number (length xs) ∷ w) (entry o (at_numbers (xs ++ x ∷ [])))
 numbers_marked n w xs x o here marks [] on = here
-numbers_marked n w xs x o here marks (key k ∷ q) on = absurd (false≢true on)
+numbers_marked n w xs x o here marks (key k ∷ q) on = absurd (cc)
 numbers_marked n w xs x o here marks (number i ∷ q) on =
     let parts = and_parts (nat_eq i (length xs)) (begins q w) on in
     let same : i ≡ length xs = grind (arith, parts.0) in

@@ -1,9 +1,7 @@
 -- The origins in a table and in what stands in it, one level at a time, and how they change at a key.
-use Rattle.std.proofs.Common.{◌≡◌, ℕ, true, false, List, [], ◌∷◌, ◌++◌, Option, Some, None}
-use Rattle.std.proofs.Common.{refl, ap, inl, inr, sym, ◌∙◌, map, rules, option_map, slice_get, Vec, Box, Global, codes}
-use Rattle.std.specs.Prelude.{◌||◌}
+use Rattle.std.proofs.Common.{◌≡◌, ℕ, true, false, List, [], ◌∷◌, ◌++◌, Option, Some, None, refl, ap, inl, inr, sym}
+use Rattle.std.proofs.Common.{◌∙◌, map, rules, option_map, slice_get, Vec, Box, Global, codes, ◌||◌, bytes_eq}
 use Rattle.std.specs.Option.{option_or}
-use Rattle.std.specs.Str.{bytes_eq}
 use Rattle.std.proofs.Math.Path.{fun_ext}
 use Rattle.std.proofs.lemmas.Bool.{cases_Bool}
 use Rattle.std.proofs.lemmas.Slice.Eq.{bytes_eq-Decides}

@@ -1,7 +1,6 @@
-use Rattle.std.proofs.Common.{ℕ, ◌+◌, [], refl, ap, sym, ◌∙◌, arith, rules}
+use Rattle.std.proofs.Common.{ℕ, ◌+◌, [], refl, ap, ◌∙◌, arith, rules}
 use denote.Hole.Carrier.{out}
 use Rattle.std.specs.Box as boxes
-use Rattle.std.proofs.lemmas.Bool.{false≢true}
 use Rattle.basic_toml_read.specs.declared.section.Raw as raws
 use Rattle.basic_toml_read.specs.declared.section.Rows as tables
 use Rattle.basic_toml_read.specs.SectionView.{header_texts, rows_view}
@@ -32,7 +31,7 @@ leads t c =
           (lead_more w.there-is w.in_ok-add_table.ensures.more)
       | goal.enter_at-else-is_array w ↦ elim w.else-is_array.branch [
         | goal.enter_at-else-is_array-via-then-is_array+then-is_empty+else-not-is_new v ↦
-            lead _ w.there-is new (λ not. absurd (false≢true (sym not ∙ v.if-not-is_new.false)))
+            lead _ w.there-is new (λ not. absurd (cc (not, v.if-not-is_new.false)))
         | goal.enter_at-else-is_array-via-then-is_array+else-is_empty v ↦
             lead _ w.there-is new (λ not. not_last _ keys (grind (arith, v.is_empty.ensures, v.if-is_empty.false)))
         | goal.enter_at-else-is_array-via-else-is_array v ↦
