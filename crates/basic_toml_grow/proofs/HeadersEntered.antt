@@ -97,11 +97,5 @@ module _ {gives : Child → Type 0} {k : List ℕ} {t u : Table} {p : Place} {th
   passed_course a rows keys l within =
       let o = out-Table t in
       let at = at_entered child_trie k o.entries pass.entries p pass.entered there pass.stands in
-      rw (
-        table_entries_trie t,
-        course_through a rows k keys l o.passed o.named o.dotted _,
-        at.1 (λ t. entered_at a rows keys t),
-        at.0,
-        mapped_twice,
-        behind_low l _ within,
-      ) refl
+      rw (table_entries_trie t, course_through a rows k keys l o.passed o.named o.dotted _)
+      (rw (at.1 (λ t. entered_at a rows keys t), at.0, mapped_twice, behind_low l _ within) refl)

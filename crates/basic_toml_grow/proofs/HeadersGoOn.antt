@@ -221,13 +221,8 @@ from_item {a} {rows} {keys} {level} {n} {is_new} {old} {mid} {there} {item} {r} 
     let s = (out-Child mid).section in
     let now_is = holding_origins there item ∙ ap (λ o. item_origins item o.start o.section) out in
     let way_is = ap (λ (c : Course). c.way) on.same in record {
-      entered = rw (
-        holding_trie there item,
-        ← same,
-        child_item_trie mid,
-        ap (λ (c : Course). c.entered) on.same,
-        ap (λ (c : Course). c.steps) on.same,
-      ) takes.entered;
+      entered = rw (holding_trie there item, ← same, child_item_trie mid)
+          (rw (ap (λ (c : Course). c.entered) on.same, ap (λ (c : Course). c.steps) on.same) takes.entered);
       named = rw (← same, child_item_trie mid, ap (λ (c : Course). c.met) on.same) takes.named;
       origins = rw (now_is, ← same, child_item_trie mid, way_is, ← came, child_seen mid)
           (IfOk-weaker r _ _ (λ x grows. grows_after (way_by a keys (item_trie on.item)) (rows_origins n rows) _ _ _

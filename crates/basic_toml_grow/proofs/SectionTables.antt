@@ -25,7 +25,7 @@ use Rattle.basic_toml_grow.proofs.ItemTries.{table_entries_trie}
 use Rattle.basic_toml_grow.proofs.KeysInATrie.{tries_of}
 use Rattle.basic_toml_grow.proofs.SimpleRows.{child_made, rows_in}
 use Rattle.basic_toml_grow.proofs.TablesOpened.{section_item_trie, sections_trie, tables_trie}
-use Rattle.basic_toml_grow.proofs.Origins.OriginsSeen.{no_keys_below, section_item_seen, table_seen, sections_seen}
+use Rattle.basic_toml_grow.proofs.Origins.OriginsSeen.{no_keys_below, section_item_seen, sections_seen}
 use Rattle.basic_toml_grow.proofs.Origins.RowsPlaceOrigins.{within}
 use Rattle.basic_toml_grow.proofs.Origins.HeadersPlaceOrigins.{array_below}
 use Rattle.std.specs.List.{list_all}
@@ -73,8 +73,7 @@ module _ (s : ℕ) (rows : List Row) where
   pub section_within : are_few_simple 0 rows ≡ true
       → table_within (section_table s rows) ≡ within true s (rows_origins s (rows_seen [] rows))
   section_within are =
-      let none : table_within (bare s) ≡ within true s (at_keys []) =
-      table_seen (bare s) ∙ search (rules, the_lemmas) in
+      let none : table_within (bare s) ≡ within true s (at_keys []) = search (rules, the_lemmas) in
       (section_taken 0 (omega arith) are).origins ∙ rw (none, no_keys_below) refl
 
   pub section_origins : are_few_simple 0 rows ≡ true → (at : ℕ)

@@ -54,10 +54,8 @@ module _ {gives : Child → Type 0} {k : List ℕ} {t u : Table} {p : Place} {th
       below (key l) q on =
           let parts = and_parts (bytes_eq l k) (begins q w) on in
           let same : l ≡ k = (bytes_eq-Decides l k).0 parts.0 in
-          rw (
-            same,
-            stands_now t u there now k pass.entries p pass.entered pass.stands (ap (λ o. o.entries) pass.is) q,
-          ) (marks q parts.1)
+          rw same (rw (stands_now t u there now k pass.entries p pass.entered pass.stands
+          (ap (λ o. o.entries) pass.is) q) (marks q parts.1))
 
 -- what is not on the way comes from where it came before, also where an item is new
 abbrev pub Keeps : Path → Origins → Origins → Type 0
@@ -189,11 +187,5 @@ more_keeps old after at s tables empty =
     let xs = elements_of at s after.value.0.items in
     let was : elements_of at s old.value.0.items ++ of_table at s (table_within old.value.1) ∷ [] ≡ xs =
     sym (rw (tables, map_push) refl) in
-    rw (
-      array_below old at s,
-      array_below after at s,
-      was,
-      fresh_within after.value.1 empty,
-      as_many at s after.value.0.items,
-    )
-    (added_keeps xs (entry _ (at_numbers xs)) _ _ (λ s p. refl))
+    rw (array_below old at s, array_below after at s, was, fresh_within after.value.1 empty)
+    (rw (as_many at s after.value.0.items) (added_keeps xs (entry _ (at_numbers xs)) _ _ (λ s p. refl)))

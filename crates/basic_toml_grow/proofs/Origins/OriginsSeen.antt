@@ -7,7 +7,7 @@ use Rattle.std.proofs.lemmas.Bool.{cases_Bool}
 use Rattle.std.proofs.lemmas.Slice.Eq.{bytes_eq-Decides}
 use Rattle.basic_toml_value.specs.Pairs.{has_key, value_at}
 use Rattle.basic_toml_grammar.specs.Standing as standings
-use Rattle.basic_toml_grammar.specs.Steps.{key, number, Path}
+use Rattle.basic_toml_grammar.specs.Steps.{key, Path}
 use Rattle.basic_toml_grammar.specs.Trie.{trie, no_tries}
 use Rattle.basic_toml_plain.specs.Tries.{by_keys}
 use Rattle.basic_toml_plain.specs.PlainTables.{SectionTables}
@@ -135,9 +135,8 @@ pub no_keys_below : at_keys [] ≡ no_origins
 no_keys_below = fun_ext go
   where
     go : (p : Path) → at_keys [] p ≡ None
-    go [] = refl
     go (key k ∷ p) = refl
-    go (number n ∷ p) = refl
+    go _ = refl
 
 no_entries : (ps : List (List ℕ × Child)) → by_keys (map (λ p. (p.0, child_trie p.1)) ps) ≡ no_tries → ps ≡ []
 no_entries [] e = refl

@@ -16,13 +16,7 @@ returns-in_ok-try_reserve-in-Tables-clause-more c =
       after = boxes.with_value array (c.push_reserved.new.self, c.replace-last.new.dest);
       was = c.in-Tables.is;
       is = rw c.in-Tables.is (search (rules, items.the_lemmas));
-      tables = rw (
-        c.push_reserved.ensures.items,
-        c.deref_mut-in-Tables-2.ensures.value,
-        c.replace-last.ensures.value,
-        c.deref_mut-in-Tables.ensures.value,
-        c.try_reserve.ensures.items,
-        here,
-      ) refl;
+      tables = rw (c.push_reserved.ensures.items, c.deref_mut-in-Tables-2.ensures.value, c.replace-last.ensures.value)
+          (rw (c.deref_mut-in-Tables.ensures.value, c.try_reserve.ensures.items, here) refl);
       empty = rw (c.replace-last.ensures.after) c.empty.ensures;
     }

@@ -27,20 +27,10 @@ returns-in_ok-table-in-Section c =
     let rows = c.into_rows.result.items in
     let plain = c.into_rows.ensures.plain in
     record {
-      trie = rw (
-        table_child_trie old.start old.section made.table,
-        child_item_trie old,
-        stood c,
-        made.ensures,
-        section_trie old.section rows plain,
-      ) refl;
-      origins = rw (
-        child_of_table made.table old.start old.section,
-        child_seen old,
-        stood c,
-        made.ensures,
-        section_origins old.section rows plain old.start,
-      ) refl;
+      trie = rw (table_child_trie, child_item_trie old, stood c, made.ensures)
+          (sym (section_trie old.section rows plain));
+      origins = rw (child_of_table, child_seen old, stood c, made.ensures)
+          (sym (section_origins old.section rows plain old.start));
       unfolded = search (rules, items.the_lemmas);
       others = λ e. search (rules, items.the_lemmas, e, c.in-Section.is);
     }
