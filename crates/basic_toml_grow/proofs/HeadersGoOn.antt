@@ -191,15 +191,13 @@ module _ {a : Bool} {rows : Rows} {level n : ℕ} {i : Item} (keys : List code.K
   pub from_deep_value : nesting_limit ≤ level → TakesHeaderInItem a rows (header_texts keys) level n i i (Err Deep)
   from_deep_value high =
       let seen = other_is_leaf i no_section no_table no_tables in
-      let t = item_trie i in record {
+      let t = item_trie i in
+      let further : (m : ℕ) → nesting_limit < highest (level + suc m) rows = λ m. omega (arith, high) in record {
         entered = further (steps_on (λ t. steps_to a (header_texts keys) t) (count t) t);
         named = rw seen.1 (deep_met a rows (header_texts keys) (level + 1) (leaf seen.0) (omega (arith, high)));
         origins = tt;
         marks = tt;
       }
-    where
-      further : (m : ℕ) → nesting_limit < highest (level + suc m) rows
-      further m = omega (arith, high)
 
 -- a child that is new is no section, so it stays
 pub new_stays : (a : Bool) (mid there : Child) (is_new : Bool)

@@ -1,9 +1,8 @@
 -- The rows of a section, kept as they were read in the table of its header, which is new, or is added to an array of
 -- tables of which each keeps its rows so.
-use Rattle.std.proofs.Common.{◌≡◌, ◌≤◌, ◌+◌, ℕ, true, List, [], ◌∷◌, ◌++◌, map, length, refl, ap, ◌∙◌, option_map}
-use Rattle.std.proofs.Common.{Box, Global, None, Ok}
-use Rattle.std.specs.Option.{option_or}
-use Rattle.std.proofs.lemmas.List.{append-nil, length-map}
+use Rattle.std.proofs.Common.{◌≡◌, ◌≤◌, ◌+◌, ℕ, true, List, [], ◌∷◌, ◌++◌, map, length, refl, option_map}
+use Rattle.std.proofs.Common.{Box, Global, Ok}
+use Rattle.std.proofs.lemmas.List.{length-map}
 use Rattle.basic_toml_value.specs.Nesting.{nesting_limit}
 use Rattle.basic_toml_grammar.specs.Steps.{Step, number, Path}
 use Rattle.basic_toml_grammar.specs.Trie.{Trie, nothing, put_element, put_table}
@@ -17,13 +16,13 @@ use Rattle.basic_toml_plain.proofs.PlainValues.{few_lower}
 use Rattle.basic_toml_grow.specs.declared.item.Item as items
 use Rattle.basic_toml_grow.specs.Item.{item_trie}
 use Rattle.basic_toml_grow.specs.Headers.{IsIn}
-use Rattle.basic_toml_grow.specs.Origins.{Origins, along, array_origin, at_numbers, entry, item_origins, rows_origins}
+use Rattle.basic_toml_grow.specs.Origins.{Origins, array_origin, at_numbers, entry, item_origins, rows_origins}
 use Rattle.basic_toml_grow.specs.Origins.{section_origins, no_origins}
 use Rattle.basic_toml_grow.specs.Ways.{GrowsAlong, MarksWay}
 use Rattle.basic_toml_grow.proofs.HeadersInATrie.{array_of, entered_on, fresh, rows_entered}
 use Rattle.basic_toml_grow.proofs.TablesOpened.{section_item_trie, sections_trie}
 use Rattle.basic_toml_grow.proofs.Origins.OriginsSeen.{sections_seen, section_item_seen}
-use Rattle.basic_toml_grow.proofs.Origins.HeadersPlaceOrigins.{entry_keeps, numbers_grow, numbers_marked}
+use Rattle.basic_toml_grow.proofs.Origins.HeadersPlaceOrigins.{element_grows, entry_keeps, numbers_marked}
 use Rattle.basic_toml_grow.proofs.KeysInATrie.{tries_of}
 use Rattle.basic_toml_grow.proofs.SectionTables.{section_table_trie, section_taken, section_trie}
 
@@ -74,14 +73,8 @@ module _ (s level : ℕ) (rows : List Row) (b : Box SectionTables Global) (befor
     pub added_grows : (came : Origins) → ((r : Step) (p : Path) → came (r ∷ p) ≡ at_numbers others (r ∷ p))
         → GrowsAlong (number (length before) ∷ []) (rows_origins s (seen s rows)) came
         (item_origins (items.Sections b) at z)
-    added_grows came same [] not = absurd (cc)
-    added_grows came same (r ∷ p) not =
-        let counted = length-map before (section_origins at) in
-        let brought = rows_origins s (seen s rows) in
-        let grows = numbers_grow others None (section_origins at (s, rows)) brought [] (λ r q not. refl) (r ∷ p)
-        (rw (← counted) at not) in
-        rw (now_is, same r p, ← counted) (grows ∙ ap (λ os. option_or (at_numbers os (r ∷ p))
-        (along (number (length others) ∷ []) brought (r ∷ p))) (append-nil others))
+    added_grows came same = rw (now_is, ← length-map before (section_origins at))
+        (element_grows others (rows_origins s (seen s rows)) came _ _ same)
 
     pub added_marks : MarksWay s (number (length before) ∷ []) (item_origins (items.Sections b) at z)
     added_marks = rw (now_is, ← length-map before (section_origins at))

@@ -1,17 +1,17 @@
 -- The way of a header through the tree: what its rows bring comes at the way's end, and headers made what stands on it,
 -- of which the section of this one is the latest that leads there. It goes on into the latest element of an array of
 -- tables, or into one that is added.
-use Rattle.std.proofs.Common.{◌≡◌, ℕ, false, List, [], ◌∷◌, refl, ap, sym, ◌∙◌, Box, Global, true, zero, suc, rules}
-use Rattle.std.proofs.Common.{◌++◌, Option, Some, None, map, arith, length, slice_get, Vec, nat_eq, ◌||◌, if◌then◌else◌}
-use Rattle.std.proofs.Common.{bytes_eq}
+use Rattle.std.proofs.Common.{append-nil, inl, inr, ◌≡◌, ℕ, false, List, [], ◌∷◌, refl, ap, sym, ◌∙◌, Box, Global, true}
+use Rattle.std.proofs.Common.{zero, suc, rules, ◌++◌, Option, Some, None, map, arith, length, slice_get, Vec, nat_eq}
+use Rattle.std.proofs.Common.{◌||◌, if◌then◌else◌, bytes_eq}
 use Prim.Native.Nat.compare
 use Rattle.std.specs.Option.{option_or}
-use Rattle.std.proofs.lemmas.Bool.{and_parts}
+use Rattle.std.proofs.lemmas.Bool.{and_parts, cases_Bool}
 use Rattle.std.proofs.lemmas.Slice.Eq.{bytes_eq-Decides}
 use Rattle.std.proofs.lemmas.Simd.{map-map}
 use Rattle.std.proofs.lemmas.List.{length-map, map_push}
 use Rattle.basic_toml_index.proofs.DistinctKeys.{bytes_eq-same}
-use Rattle.basic_toml_grammar.specs.Steps.{Step, key, Path, begins, number}
+use Rattle.basic_toml_grammar.specs.Steps.{Step, key, Path, begins, number, step_eq}
 use Rattle.basic_toml_grow.specs.declared.item.Item.{the_lemmas, Tables}
 use Rattle.basic_toml_grow.specs.declared.item.Item as items
 use Rattle.basic_toml_grow.specs.declared.item.Child.{Child, out-Child}
@@ -101,24 +101,25 @@ numbers_grow (y ∷ xs) last now rows w grows (number zero ∷ q) not = rw compa
 numbers_grow (y ∷ xs) last now rows w grows (number (suc m) ∷ q) not =
     rw compare.suc-suc (numbers_grow xs last now rows w grows (number m ∷ q) (rw compare.suc-suc at not))
 
--- an element from which nothing comes yet, after others
-numbers_keep : (xs : List Origins) (o : Origin)
-    → Keeps (number (length xs) ∷ []) (at_numbers xs) (at_numbers (xs ++ entry o no_origins ∷ []))
-numbers_keep xs o [] not = absurd (cc)
-numbers_keep xs o (key k ∷ q) not = refl
-numbers_keep [] o (number zero ∷ []) not = absurd (cc)
-numbers_keep [] o (number zero ∷ s ∷ q) not = refl
-numbers_keep [] o (number (suc m) ∷ q) not = refl
-numbers_keep (y ∷ xs) o (number zero ∷ q) not = refl
-numbers_keep (y ∷ xs) o (number (suc m) ∷ q) not =
-    numbers_keep xs o (number m ∷ q) (rw compare.suc-suc at not)
+-- one more element after these, in the place of which nothing stood
+pub element_grows : (xs : List Origins) (rows before : Origins) (o q : Origin)
+    → ((s : Step) (p : Path) → before (s ∷ p) ≡ at_numbers xs (s ∷ p))
+    → GrowsAlong (number (length xs) ∷ []) rows before (entry q (at_numbers (xs ++ entry o rows ∷ [])))
+element_grows xs rows before o q same [] not = absurd (cc)
+element_grows xs rows before o q same (s ∷ p) not =
+    rw (same s p) (numbers_grow xs None (entry o rows) rows [] (λ r q not. refl) (s ∷ p) not
+    ∙ ap (λ os. option_or (at_numbers os (s ∷ p)) (along (number (length xs) ∷ []) rows (s ∷ p))) (append-nil xs))
 
-added_keeps : (xs : List Origins) (before : Origins) (o q : Origin)
-    → ((s : Step) (p : Path) → at_numbers xs (s ∷ p) ≡ before (s ∷ p))
+-- from which nothing comes yet
+element_keeps : (xs : List Origins) (before : Origins) (o q : Origin)
+    → ((s : Step) (p : Path) → before (s ∷ p) ≡ at_numbers xs (s ∷ p))
     → Keeps (number (length xs) ∷ []) before (entry q (at_numbers (xs ++ entry o no_origins ∷ [])))
-added_keeps xs before o q same =
-    entry_keeps (number (length xs) ∷ []) before (at_numbers (xs ++ entry o no_origins ∷ [])) q
-    (λ s p not. numbers_keep xs o (s ∷ p) not ∙ same s p)
+element_keeps xs before o q same [] not = absurd (cc)
+element_keeps xs before o q same (s ∷ p) not =
+    element_grows xs no_origins before o q same (s ∷ p) not ∙ elim (cases_Bool (step_eq s (number (length xs)))) [
+      | inl is ↦ rw is (or_none _)
+      | inr is ↦ rw is (or_none _)
+    ]
 
 pub none_below : (s : Step) (p : Path) → at_numbers [] (s ∷ p) ≡ None
 none_below (key k) p = refl
@@ -176,7 +177,7 @@ pub new_array_keeps : (b : Box (Vec Table Global × Table) Global) (at s : ℕ) 
     → table_trie b.value.1 ≡ fresh → Keeps (number 0 ∷ []) no_origins (item_origins (Tables b) at s)
 new_array_keeps b at s none empty =
     rw (array_below b at s, none, fresh_within b.value.1 empty)
-    (added_keeps [] no_origins _ _ none_below)
+    (element_keeps [] no_origins _ _ (λ s p. sym (none_below s p)))
 
 -- and so does a table that is added to an array
 pub more_keeps : (old after : Box (Vec Table Global × Table) Global) (at s : ℕ)
@@ -188,4 +189,4 @@ more_keeps old after at s tables empty =
     let was : elements_of at s old.value.0.items ++ of_table at s (table_within old.value.1) ∷ [] ≡ xs =
     sym (rw (tables, map_push) refl) in
     rw (array_below old at s, array_below after at s, was, fresh_within after.value.1 empty)
-    (rw (as_many at s after.value.0.items) (added_keeps xs (entry _ (at_numbers xs)) _ _ (λ s p. refl)))
+    (rw (as_many at s after.value.0.items) (element_keeps xs (entry _ (at_numbers xs)) _ _ (λ s p. refl)))
