@@ -40,7 +40,7 @@ use Rattle.basic_toml_grow.proofs.TablesOpened.{table_item_trie, tables_trie}
 use Rattle.basic_toml_grow.proofs.HeadersEntered.{holding, holding_trie, other_is_leaf, out_holding, passed_course}
 use Rattle.basic_toml_grow.proofs.HeadersEntered.{passed_table, passed_trie, passed_with, passes}
 use Rattle.basic_toml_grow.proofs.Origins.OriginsSeen.{child_seen, table_item_seen, table_origins}
-use Rattle.basic_toml_grow.proofs.Origins.HeadersPlaceOrigins.{entry_keeps, grows_after, holding_origins, passed_grows}
+use Rattle.basic_toml_grow.proofs.Origins.HeadersPlaceOrigins.{entry_keeps, holding_origins, passed_grows}
 use Rattle.basic_toml_grow.proofs.Origins.HeadersPlaceOrigins.{Keeps, new_table_keeps, passed_marks, latest_grows}
 use Rattle.basic_toml_grow.proofs.Origins.HeadersPlaceOrigins.{latest_marks, table_marked, new_array_keeps, more_keeps}
 
@@ -223,8 +223,7 @@ from_item {a} {rows} {keys} {level} {n} {is_new} {old} {mid} {there} {item} {r} 
           (rw (ap (λ (c : Course). c.entered) on.same, ap (λ (c : Course). c.steps) on.same) takes.entered);
       named = rw (← same, child_item_trie mid, ap (λ (c : Course). c.met) on.same) takes.named;
       origins = rw (now_is, ← same, child_item_trie mid, way_is, ← came, child_seen mid)
-          (IfOk-weaker r _ _ (λ x grows. grows_after (way_by a keys (item_trie on.item)) (rows_origins n rows) _ _ _
-          (on.keeps at s) (grows at s)) takes.origins);
+          (IfOk-weaker r _ _ (λ x grows. λ p not. grows at s p not ∙ rw (on.keeps at s p not) refl) takes.origins);
       marks = rw (now_is, ← same, child_item_trie mid, way_is) (IfOk-weaker r _ _ (λ x marks. marks at s) takes.marks);
     }
 

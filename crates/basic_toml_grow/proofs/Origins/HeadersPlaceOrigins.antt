@@ -61,11 +61,6 @@ module _ {gives : Child → Type 0} {k : List ℕ} {t u : Table} {p : Place} {th
 abbrev pub Keeps : Path → Origins → Origins → Type 0
 Keeps w before now = (p : Path) → begins p w ≡ false → now p ≡ before p
 
-pub grows_after : (w : Path) (rows before mid now : Origins) → Keeps w before mid → GrowsAlong w rows mid now
-    → GrowsAlong w rows before now
-grows_after w rows before mid now keeps grows p not =
-    grows p not ∙ ap (λ o. option_or o (along w rows p)) (keeps p not)
-
 pub entry_keeps : (w : Path) (before now : Origins) (o : Origin)
     → ((s : Step) (p : Path) → begins (s ∷ p) w ≡ false → now (s ∷ p) ≡ before (s ∷ p)) → Keeps w before (entry o now)
 entry_keeps w before now o keeps [] not = absurd (cc)
