@@ -29,20 +29,21 @@ use Rattle.basic_toml_grow.specs.Simple.{with_entries}
 use Rattle.basic_toml_grow.specs.Headers.{IsKeptOut, IsNew, highest, is_last, HasOneMore, steps_by}
 use Rattle.basic_toml_grow.specs.Obstacles.{element_obstacle}
 use Rattle.basic_toml_grow.specs.Origins.{child_origins, item_origins, origins_before, rows_origins, table_within}
+use Rattle.basic_toml_grow.specs.Origins.{no_origins}
 use Rattle.basic_toml_grow.specs.Ways.{way, way_by}
 use Rattle.basic_toml_grow.specs.Takes.{TakesHeader, TakesHeaderAtKey, TakesHeaderInItem}
 use Rattle.basic_toml_grow.proofs.HeadersInATrie.{array_of, Course, course, course_by, course_barred, course_latest}
-use Rattle.basic_toml_grow.proofs.HeadersInATrie.{deep_met, entered_on, in_latest, in_table, course_at}
-use Rattle.basic_toml_grow.proofs.HeadersInATrie.{course_fresh, course_next, no_last}
+use Rattle.basic_toml_grow.proofs.HeadersInATrie.{deep_met, entered_on, in_latest, in_table, course_at, course_fresh}
+use Rattle.basic_toml_grow.proofs.HeadersInATrie.{course_next, no_last}
 use Rattle.basic_toml_grow.proofs.HeadersNamed.{texts_count}
 use Rattle.basic_toml_grow.proofs.ItemTries.{child_item_trie, table_entries_trie}
 use Rattle.basic_toml_grow.proofs.TablesOpened.{table_item_trie, tables_trie}
 use Rattle.basic_toml_grow.proofs.HeadersEntered.{holding, holding_trie, other_is_leaf, out_holding, passed_course}
 use Rattle.basic_toml_grow.proofs.HeadersEntered.{passed_table, passed_trie, passed_with, passes}
-use Rattle.basic_toml_grow.proofs.Origins.OriginsSeen.{child_seen, table_item_seen, table_origins}
-use Rattle.basic_toml_grow.proofs.Origins.HeadersPlaceOrigins.{entry_keeps, holding_origins, passed_grows}
-use Rattle.basic_toml_grow.proofs.Origins.HeadersPlaceOrigins.{Keeps, new_table_keeps, passed_marks, latest_grows}
-use Rattle.basic_toml_grow.proofs.Origins.HeadersPlaceOrigins.{latest_marks, table_marked, new_array_keeps, more_keeps}
+use Rattle.basic_toml_grow.proofs.Origins.OriginsSeen.{child_seen, table_item_seen, table_origins, fresh_within}
+use Rattle.basic_toml_grow.proofs.Origins.HeadersPlaceOrigins.{entry_keeps, holding_origins, passed_grows, Keeps}
+use Rattle.basic_toml_grow.proofs.Origins.HeadersPlaceOrigins.{passed_marks, latest_grows, latest_marks, table_marked}
+use Rattle.basic_toml_grow.proofs.Origins.HeadersPlaceOrigins.{array_below, element_keeps, none_below, more_keeps}
 
 -- A child leads on to the item of another, which holds it where the first held its own: what goes on from that item is
 -- what goes on from what stood at the key.
@@ -70,7 +71,8 @@ lead {a = true} {rows = rows} {keys = []} {l = l} true {mid = mid} own new not =
       holds = own ∙ search (rules, items.the_lemmas);
       same = rw (array.is, tables_trie array.array, array.none, array.empty) refl;
       keeps = λ at s. rw (array.is, tables_trie array.array, ap (map table_trie) array.none)
-          (new_array_keeps array.array at s array.none array.empty);
+          (rw (array_below array.array at s, array.none, fresh_within array.array.value.1 array.empty)
+          (element_keeps [] no_origins _ _ (λ s p. sym (none_below s p))));
     }
 lead {a = a} {rows = rows} {keys = keys} {l = l} true {mid = mid} own new not =
     let table = new refl in record {
@@ -78,7 +80,8 @@ lead {a = a} {rows = rows} {keys = keys} {l = l} true {mid = mid} own new not =
       holds = own ∙ search (rules, items.the_lemmas);
       same = rw (table.is, table_item_trie table.table, table.empty)
           (no_last a rows keys l nothing refl ∙ sym (ap in_table (course_fresh a rows keys l)));
-      keeps = λ at s. rw table.is (new_table_keeps _ table.table at s table.empty);
+      keeps = λ at s. rw (table.is, table_item_seen table.table at s, fresh_within table.table.value table.empty)
+          (entry_keeps _ no_origins no_origins _ (λ s p not. refl));
     }
 
 pub lead_more : {rows : Rows} {l : ℕ} {mid there : Child} {i : Item} → there ≡ holding mid i

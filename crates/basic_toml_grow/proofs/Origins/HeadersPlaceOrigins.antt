@@ -24,7 +24,7 @@ use Rattle.basic_toml_grow.specs.Origins.{or_else}
 use Rattle.basic_toml_grow.specs.Ways.{GrowsAlong, IsMarked, MarksWay, MarksTable}
 use Rattle.basic_toml_grow.proofs.HeadersInATrie.{fresh}
 use Rattle.basic_toml_grow.proofs.HeadersEntered.{holding, Passes}
-use Rattle.basic_toml_grow.proofs.Origins.OriginsSeen.{table_item_seen, table_origins, fresh_within, grows_at}
+use Rattle.basic_toml_grow.proofs.Origins.OriginsSeen.{table_origins, fresh_within, grows_at}
 use Rattle.basic_toml_grow.proofs.Origins.OriginsSeen.{made_seen, section_seen, stands_now, tables_seen, or_none}
 
 -- a child with another item
@@ -66,11 +66,6 @@ pub entry_keeps : (w : Path) (before now : Origins) (o : Origin)
 entry_keeps w before now o keeps [] not = absurd (cc)
 entry_keeps w before now o keeps (s ∷ p) not = keeps s p not
 
-pub new_table_keeps : (w : Path) (t : Box Table Global) (at s : ℕ) → table_trie t.value ≡ fresh
-    → Keeps w no_origins (item_origins (items.Table t) at s)
-new_table_keeps w t at s empty = rw (table_item_seen t at s, fresh_within t.value empty)
-    (entry_keeps w no_origins no_origins _ (λ s p not. refl))
-
 -- a table that stands at a key
 pub table_marked : (n : ℕ) (w : Path) (t : Within) (at s : ℕ) → MarksTable n w t → MarksWay n w (of_table at s t)
 table_marked n w t at s marks [] on = (marks.made, ap (λ b. if b then t.section else s) marks.made ∙ marks.section)
@@ -106,7 +101,7 @@ element_grows xs rows before o q same (s ∷ p) not =
     ∙ ap (λ os. option_or (at_numbers os (s ∷ p)) (along (number (length xs) ∷ []) rows (s ∷ p))) (append-nil xs))
 
 -- from which nothing comes yet
-element_keeps : (xs : List Origins) (before : Origins) (o q : Origin)
+pub element_keeps : (xs : List Origins) (before : Origins) (o q : Origin)
     → ((s : Step) (p : Path) → before (s ∷ p) ≡ at_numbers xs (s ∷ p))
     → Keeps (number (length xs) ∷ []) before (entry q (at_numbers (xs ++ entry o no_origins ∷ [])))
 element_keeps xs before o q same [] not = absurd (cc)
@@ -167,14 +162,7 @@ latest_marks old after n w same marks at s =
     (numbers_marked n w (elements_of at s old.value.0.items) (of_table at s (table_within after.value.1)) _
     (refl, marks.section) (table_marked n w (table_within after.value.1) at s marks))
 
--- an array of one new table comes from nowhere yet, but for what is on its way
-pub new_array_keeps : (b : Box (Vec Table Global × Table) Global) (at s : ℕ) → b.value.0.items ≡ []
-    → table_trie b.value.1 ≡ fresh → Keeps (number 0 ∷ []) no_origins (item_origins (Tables b) at s)
-new_array_keeps b at s none empty =
-    rw (array_below b at s, none, fresh_within b.value.1 empty)
-    (element_keeps [] no_origins _ _ (λ s p. sym (none_below s p)))
-
--- and so does a table that is added to an array
+-- a table that is added to an array comes from nowhere yet, but for what is on its way
 pub more_keeps : (old after : Box (Vec Table Global × Table) Global) (at s : ℕ)
     → after.value.0.items ≡ old.value.0.items ++ old.value.1 ∷ [] → table_trie after.value.1 ≡ fresh
     → Keeps (number (length (map table_trie after.value.0.items)) ∷ []) (item_origins (Tables old) at s)
