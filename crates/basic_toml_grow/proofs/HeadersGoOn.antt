@@ -1,18 +1,18 @@
 -- What a section does to a table, to what stands at a key and to an item, by the keys of its header that are left: what
 -- is entered or is met first, what its rows bring, and what its header marks. What it does to one of these it does to
--- what holds that one.
+-- what holds that one. It goes on from an item as from what stood at its key: where that is the item, where the item is
+-- new, and where it has one table more.
 use Rattle.std.specs.Box as boxes
-use Rattle.std.specs.List.{slice_get}
 use Rattle.std.proofs.Common.{◌≡◌, ◌≤◌, ◌<◌, ℕ, suc, ◌+◌, Bool, true, false, List, [], ◌∷◌, length, map, Some, refl, ap}
-use Rattle.std.proofs.Common.{ap₂, sym, ◌∙◌, arith, inr, Vec, Box, Global, Result, Err, IsErrAnd}
-use Rattle.std.proofs.lemmas.Iterator.Adapters.{option_map_id}
+use Rattle.std.proofs.Common.{sym, ◌∙◌, arith, inr, Vec, Box, Global, Result, Err, IsErrAnd, rules, slice_get}
 use Rattle.std.proofs.lemmas.Result.{IfOk-weaker, err_from_is_err_and}
+use Rattle.std.proofs.lemmas.List.{map-append}
 use Rattle.basic_toml_value.specs.Nesting.{nesting_limit}
 use Rattle.basic_toml_value.specs.Growth.{FindsOrAdds, with_value, values_of}
 use Rattle.basic_toml_value.specs.declared.pairs.growth.Place.{Place}
 use Rattle.basic_toml_grammar.specs.Sections.{KeyTexts, Rows}
 use Rattle.basic_toml_grammar.specs.Stops.{at_header}
-use Rattle.basic_toml_grammar.specs.Trie.{put_element, walk, count, steps_on, steps_to}
+use Rattle.basic_toml_grammar.specs.Trie.{put_element, walk, count, steps_on, steps_to, nothing}
 use Rattle.basic_toml_plain.specs.Tries.{leaf}
 use Rattle.basic_toml_read.specs.declared.section.Key as code
 use Rattle.basic_toml_read.specs.KeyText.{key_text_bytes}
@@ -23,53 +23,109 @@ use Rattle.basic_toml_grow.specs.declared.item.Item as items
 use Rattle.basic_toml_grow.specs.declared.item.Child.{Child, out-Child}
 use Rattle.basic_toml_grow.specs.declared.item.Table.{Table, out-Table}
 use Rattle.basic_toml_grow.specs.declared.clash.Clash.TheVariants.{Deep, Header}
-use Rattle.basic_toml_grow.specs.Clash.{NamesObstacle, in_the_way}
+use Rattle.basic_toml_grow.specs.Clash.{NamesObstacle}
 use Rattle.basic_toml_grow.specs.Item.{child_trie, item_trie, table_trie, trie_before, is_section}
 use Rattle.basic_toml_grow.specs.Simple.{with_entries}
-use Rattle.basic_toml_grow.specs.Headers.{IsKeptOut, IsNew, entered_at, highest, is_last}
+use Rattle.basic_toml_grow.specs.Headers.{IsKeptOut, IsNew, highest, is_last, HasOneMore, steps_by}
 use Rattle.basic_toml_grow.specs.Obstacles.{element_obstacle}
 use Rattle.basic_toml_grow.specs.Origins.{child_origins, item_origins, origins_before, rows_origins, table_within}
-use Rattle.basic_toml_grow.specs.Ways.{way, way_by, way_at}
+use Rattle.basic_toml_grow.specs.Origins.{no_origins}
+use Rattle.basic_toml_grow.specs.Ways.{way, way_by}
 use Rattle.basic_toml_grow.specs.Takes.{TakesHeader, TakesHeaderAtKey, TakesHeaderInItem}
 use Rattle.basic_toml_grow.proofs.HeadersInATrie.{array_of, Course, course, course_by, course_barred, course_latest}
-use Rattle.basic_toml_grow.proofs.HeadersInATrie.{deep_met, entered_on, in_latest, in_table}
+use Rattle.basic_toml_grow.proofs.HeadersInATrie.{deep_met, entered_on, in_latest, in_table, course_at, course_fresh}
+use Rattle.basic_toml_grow.proofs.HeadersInATrie.{course_next, no_last}
 use Rattle.basic_toml_grow.proofs.HeadersNamed.{texts_count}
 use Rattle.basic_toml_grow.proofs.ItemTries.{child_item_trie, table_entries_trie}
 use Rattle.basic_toml_grow.proofs.TablesOpened.{table_item_trie, tables_trie}
-use Rattle.basic_toml_grow.proofs.HeadersEntered.{holding, holding_trie, other_is_leaf, out_holding}
-use Rattle.basic_toml_grow.proofs.HeadersEntered.{passed_course, passed_table, passed_trie, passed_with, passes}
-use Rattle.basic_toml_grow.proofs.HeadersLead.{Leads, lead, no_new_section}
-use Rattle.basic_toml_grow.proofs.Origins.OriginsSeen.{child_seen, table_item_seen, table_origins}
-use Rattle.basic_toml_grow.proofs.Origins.HeadersPlaceOrigins.{entry_grows, grows_after, holding_origins, passed_grows}
-use Rattle.basic_toml_grow.proofs.Origins.ElementsPlaceOrigins.{latest_grows, latest_marks, table_marked}
-use Rattle.basic_toml_grow.proofs.Origins.HeadersMark.{passed_marks}
+use Rattle.basic_toml_grow.proofs.HeadersEntered.{holding, holding_trie, other_is_leaf, out_holding, passed_course}
+use Rattle.basic_toml_grow.proofs.HeadersEntered.{passed_table, passed_trie, passed_with, passes}
+use Rattle.basic_toml_grow.proofs.Origins.OriginsSeen.{child_seen, table_item_seen, table_origins, fresh_within}
+use Rattle.basic_toml_grow.proofs.Origins.HeadersPlaceOrigins.{entry_keeps, holding_origins, passed_grows, Keeps}
+use Rattle.basic_toml_grow.proofs.Origins.HeadersPlaceOrigins.{passed_marks, latest_grows, latest_marks, table_marked}
+use Rattle.basic_toml_grow.proofs.Origins.HeadersPlaceOrigins.{array_below, element_keeps, none_below, more_keeps}
+
+-- A child leads on to the item of another, which holds it where the first held its own: what goes on from that item is
+-- what goes on from what stood at the key.
+pub record Leads (a : Bool) (rows : Rows) (keys : KeyTexts) (l : ℕ) (is_new : Bool) (mid there : Child) : Type 0 where
+  pub item : Item
+  pub holds : there ≡ holding mid item
+  pub same : course_at a rows keys l (trie_before is_new (item_trie (out-Child mid).item))
+      ≡ course_by a rows keys l (item_trie item)
+  pub keeps : (at s : ℕ) → Keeps (way_by a keys (item_trie item))
+      (origins_before is_new (item_origins (out-Child mid).item at s)) (item_origins item at s)
+
+-- to its own, which is new or not, and to one with one table more
+pub lead : {a : Bool} {rows : Rows} {keys : KeyTexts} {l : ℕ} (is_new : Bool) {mid there : Child} → there ≡ mid
+    → (is_new ≡ true → IsNew (is_last a keys) (out-Child mid).item) → (is_new ≡ false → is_last a keys ≡ false)
+    → Leads a rows keys l is_new mid there
+lead {a = a} {rows = rows} {keys = keys} {l = l} false {mid = mid} own new not = record {
+  item = (out-Child mid).item;
+  holds = own ∙ search (rules, items.the_lemmas);
+  same = no_last a rows keys l (item_trie (out-Child mid).item) (not refl);
+  keeps = λ at s p aside. refl;
+}
+lead {a = true} {rows = rows} {keys = []} {l = l} true {mid = mid} own new not =
+    let array = new refl in record {
+      item = (out-Child mid).item;
+      holds = own ∙ search (rules, items.the_lemmas);
+      same = rw (array.is, tables_trie array.array, array.none, array.empty) refl;
+      keeps = λ at s. rw (array.is, tables_trie array.array, ap (map table_trie) array.none)
+          (rw (array_below array.array at s, array.none, fresh_within array.array.value.1 array.empty)
+          (element_keeps [] no_origins _ _ (λ s p. sym (none_below s p))));
+    }
+lead {a = a} {rows = rows} {keys = keys} {l = l} true {mid = mid} own new not =
+    let table = new refl in record {
+      item = (out-Child mid).item;
+      holds = own ∙ search (rules, items.the_lemmas);
+      same = rw (table.is, table_item_trie table.table, table.empty)
+          (no_last a rows keys l nothing refl ∙ sym (ap in_table (course_fresh a rows keys l)));
+      keeps = λ at s. rw (table.is, table_item_seen table.table at s, fresh_within table.table.value table.empty)
+          (entry_keeps _ no_origins no_origins _ (λ s p not. refl));
+    }
+
+pub lead_more : {rows : Rows} {l : ℕ} {mid there : Child} {i : Item} → there ≡ holding mid i
+    → HasOneMore (out-Child mid).item i → Leads true rows [] l false mid there
+lead_more {rows} {l} {mid} {there} {i} holds one = record {
+  item = i;
+  holds = holds;
+  same = rw (one.was, tables_trie one.before, one.is, tables_trie one.after, one.empty, one.tables, map-append)
+      (course_next rows l _ _);
+  keeps = λ at s. rw (one.was, one.is, tables_trie one.after)
+      (more_keeps one.before one.after at s one.tables one.empty);
+}
+
+-- what is no array's last key
+pub not_last : (a : Bool) (keys : List code.Key) → 1 ≤ length keys → is_last a (header_texts keys) ≡ false
+not_last a [] some = absurd (omega (arith, some))
+not_last true (k ∷ keys) some = refl
+not_last false (k ∷ keys) some = refl
+
+-- what a header makes is no section
+pub no_new_section : (a : Bool) (i : items.Item) → IsNew a i → is_section i ≡ false
+no_new_section true i new = ap is_section new.is ∙ search (rules, items.the_lemmas)
+no_new_section false i new = ap is_section new.is ∙ search (rules, items.the_lemmas)
 
 -- A table is passed by a key.
-pub from_key : {gives : Child → Type 0} {a : Bool} {rows : Rows} {k : List ℕ} {level n : ℕ}
-    {new : List (List ℕ × Child)} {p : Place} {t : Table} {there now : Child} {r : Result (Unit {0}) Clash}
-    (key : code.Key) (rest : List code.Key) → k ≡ key_text_bytes key.text → level ≤ nesting_limit
-    → FindsOrAdds gives k (out-Table t).entries new p
-    → slice_get (values_of (out-Table (passed_table t new n)).entries) p.position ≡ Some there
-    → TakesHeaderAtKey a rows (header_texts rest) level n p.is_new there now r
-    → TakesHeader a rows (header_texts (key ∷ rest)) level n t (with_entries (passed_table t new n)
-    (with_value (out-Table (passed_table t new n)).entries p.position now)) r
-from_key {a = a} {rows = rows} {k = k} {level = level} {n = n} {new = new} {p = p} {t = t} {there = there} {now = now}
-    {r = r} key rest text within entered stands from =
-    let keys = header_texts rest in
-    let after = with_entries (passed_table t new n)
-    (with_value (out-Table (passed_table t new n)).entries p.position now) in
-    let pass = passes t n now entered stands in
-    let met = passed_course pass a rows keys level within in
-    let before = trie_before p.is_new (child_trie there) in
-    let way_is = ap (λ (c : Course). c.way) met in
-    rw (← text) (record {
-      entered = entered_on (entered_at a rows keys before) (child_trie now) rows (passed_with pass) r
-          (ap (λ (c : Course). c.entered) met) (ap (λ (c : Course). level + c.steps) met) (passed_trie pass)
-          from.entered;
-      named = rw (ap (λ (c : Course). c.met) met) from.named;
-      origins = rw way_is (IfOk-weaker r _ _ (λ x grows. passed_grows pass _ (rows_origins n rows) grows) from.origins);
-      marks = rw way_is (IfOk-weaker r _ _ (λ x marks. passed_marks pass _ marks) from.marks);
-    })
+module _ {gives : Child → Type 0} {a : Bool} {rows : Rows} {k : List ℕ} {level n : ℕ} {new : List (List ℕ × Child)}
+    {p : Place} {t : Table} {there now : Child} {r : Result (Unit {0}) Clash} where
+  pub from_key : (key : code.Key) (rest : List code.Key) → k ≡ key_text_bytes key.text → level ≤ nesting_limit
+      → FindsOrAdds gives k (out-Table t).entries new p
+      → slice_get (values_of (out-Table (passed_table t new n)).entries) p.position ≡ Some there
+      → TakesHeaderAtKey a rows (header_texts rest) level n p.is_new there now r
+      → TakesHeader a rows (header_texts (key ∷ rest)) level n t (with_entries (passed_table t new n)
+      (with_value (out-Table (passed_table t new n)).entries p.position now)) r
+  from_key key rest text within entered stands from =
+      let pass = passes t n now entered stands in
+      let met = passed_course pass a rows (header_texts rest) level within in
+      let way_is = ap (λ (c : Course). c.way) met in
+      rw (← text) (record {
+        entered = rw (ap (λ (c : Course). c.entered) met, passed_trie pass) (entered_on _ (child_trie now) rows
+            (passed_with pass) r (ap (λ (c : Course). level + c.steps) met) from.entered);
+        named = rw (ap (λ (c : Course). c.met) met) from.named;
+        origins = rw way_is (IfOk-weaker r _ _ (λ x grows. passed_grows pass _ _ grows) from.origins);
+        marks = rw way_is (IfOk-weaker r _ _ (λ x marks. passed_marks pass _ marks) from.marks);
+      })
 
 -- The item is a table, or an array of tables, whose latest is gone on from.
 module _ {a : Bool} {rows : Rows} {keys : KeyTexts} {level n : ℕ} {r : Result (Unit {0}) Clash} where
@@ -79,20 +135,19 @@ module _ {a : Bool} {rows : Rows} {keys : KeyTexts} {level n : ℕ} {r : Result 
   from_table {held} {now} old same takes =
       let from = rw same at takes in
       let after = boxes.with_value old now in
-      let t = table_entries_trie old.value in
       let met : course_by a rows keys (level + 1) (item_trie (items.Table old))
       ≡ in_table (course a rows keys (level + 1) (table_trie old.value)) =
-      ap (course_by a rows keys (level + 1)) (table_item_trie old ∙ t)
-      ∙ ap (λ t. in_table (course a rows keys (level + 1) t)) (sym t) in
+      rw (table_item_trie old, table_entries_trie old.value) refl in
+      let level_is : level + steps_by a keys (item_trie (items.Table old))
+      ≡ (level + 1) + steps_to a keys (table_trie old.value) =
+      ap (λ (c : Course). level + c.steps) met ∙ omega arith in
       let way_is = ap (λ (c : Course). c.way) met in record {
-        entered = entered_on (walk a rows keys (table_trie old.value)) (table_trie now) rows (λ u. u) r
-            (ap (λ (c : Course). c.entered) met ∙ sym (option_map_id _))
-            (ap (λ (c : Course). level + c.steps) met ∙ omega arith) (table_item_trie after) from.entered;
+        entered = rw (ap (λ (c : Course). c.entered) met, table_item_trie after, level_is) from.entered;
         named = rw (ap (λ (c : Course). c.met) met) from.named;
         origins = rw way_is (IfOk-weaker r _ _
             (λ x grows. λ at s. rw (table_item_seen old at s, table_item_seen after at s)
-            (entry_grows (way a keys (table_trie old.value)) (rows_origins n rows) (table_origins old.value)
-            (table_origins now) _ _ (λ s p not. grows (s ∷ p) not))) from.origins);
+            (entry_keeps (way a keys (table_trie old.value)) _ (table_origins now) _
+            (λ s p not. grows (s ∷ p) not))) from.origins);
         marks = rw way_is (IfOk-weaker r _ _ (λ x marks. λ at s. rw (table_item_seen after at s)
             (table_marked n _ (table_within now) at s marks)) from.marks);
       }
@@ -111,11 +166,9 @@ module _ {a : Bool} {rows : Rows} {keys : KeyTexts} {level n : ℕ} {r : Result 
       ap (course_by a rows keys (level + 1)) (tables_trie old)
       ∙ course_latest a rows keys (level + 1) (level + 2) before t (omega arith) in
       let way_is = ap (λ (c : Course). c.way) met in record {
-        entered = entered_on (walk a rows keys t) (table_trie now) rows (λ u. array_of before u) r
-            (ap (λ (c : Course). c.entered) met)
-            (ap (λ (c : Course). level + c.steps) met ∙ omega arith)
-            (tables_trie after
-            ∙ ap (λ (ts : Vec Table Global). array_of (map table_trie ts.items) (table_trie now)) same) from.entered;
+        entered = rw (ap (λ (c : Course). c.entered) met, tables_trie after, same) (entered_on (walk a rows keys t)
+            (table_trie now) rows (λ u. array_of before u) r (ap (λ (c : Course). level + c.steps) met ∙ omega arith)
+            from.entered);
         named = rw (ap (λ (c : Course). c.met) met) from.named;
         origins = rw way_is (IfOk-weaker r _ _
             (λ x grows. latest_grows old after _ (rows_origins n rows) same grows) from.origins);
@@ -133,10 +186,7 @@ module _ {a : Bool} {rows : Rows} {level n : ℕ} {i : Item} (keys : List code.K
       let barred = course_barred a rows (header_texts keys) (level + 1) seen.0 (omega (arith, low)) in
       let left : suc (length (header_texts keys)) ≡ length keys + 1 = omega (arith, texts_count keys) in record {
         entered = inr (rw seen.1 barred.0);
-        named = (
-          at_header (length keys + 1),
-          (refl, rw seen.1 (barred.1 ∙ ap (λ (n : ℕ). Some (in_the_way (at_header n))) left)),
-        );
+        named = (at_header (length keys + 1), (refl, rw (seen.1, ← left) barred.1));
         origins = tt;
         marks = tt;
       }
@@ -144,39 +194,12 @@ module _ {a : Bool} {rows : Rows} {level n : ℕ} {i : Item} (keys : List code.K
   pub from_deep_value : nesting_limit ≤ level → TakesHeaderInItem a rows (header_texts keys) level n i i (Err Deep)
   from_deep_value high =
       let seen = other_is_leaf i no_section no_table no_tables in
-      let t = item_trie i in record {
+      let t = item_trie i in
+      let further : (m : ℕ) → nesting_limit < highest (level + suc m) rows = λ m. omega (arith, high) in record {
         entered = further (steps_on (λ t. steps_to a (header_texts keys) t) (count t) t);
         named = rw seen.1 (deep_met a rows (header_texts keys) (level + 1) (leaf seen.0) (omega (arith, high)));
         origins = tt;
         marks = tt;
-      }
-    where
-      further : (m : ℕ) → nesting_limit < highest (level + suc m) rows
-      further m = omega (arith, high)
-
--- A child leads on to the item of another.
-pub record LeadsOn (a : Bool) (rows : Rows) (keys : KeyTexts) (l : ℕ) (is_new : Bool) (mid there : Child) : Type 0 where
-  pub leads : Leads a rows keys l (trie_before is_new (item_trie (out-Child mid).item))
-      (λ at s. origins_before is_new (item_origins (out-Child mid).item at s)) (out-Child there).item
-  pub start : (out-Child there).start ≡ (out-Child mid).start
-  pub section : (out-Child there).section ≡ (out-Child mid).section
-
-module _ {a : Bool} {rows : Rows} {keys : KeyTexts} {l : ℕ} {is_new : Bool} {mid there : Child} where
-  -- to its own, and to one that it holds then
-  pub leads_same : there ≡ mid → (is_new ≡ true → IsNew (is_last a keys) (out-Child mid).item)
-      → (is_new ≡ false → is_last a keys ≡ false) → LeadsOn a rows keys l is_new mid there
-  leads_same same new not =
-      rw same (record { leads = lead is_new new not; start = refl; section = refl })
-
-  pub leads_holding : {i : Item} → there ≡ holding mid i
-      → Leads a rows keys l (trie_before is_new (item_trie (out-Child mid).item))
-      (λ at s. origins_before is_new (item_origins (out-Child mid).item at s)) i
-      → LeadsOn a rows keys l is_new mid there
-  leads_holding {i} same leads =
-      let out = ap out-Child same ∙ out_holding mid i in record {
-        leads = rw (ap (λ o. o.item) out) leads;
-        start = ap (λ o. o.start) out;
-        section = ap (λ o. o.section) out;
       }
 
 -- a child that is new is no section, so it stays
@@ -189,33 +212,22 @@ new_stays a mid there is_new others new is =
 -- What stands at a key is gone on from by the item that it leads on to.
 pub from_item : {a : Bool} {rows : Rows} {keys : KeyTexts} {level n : ℕ} {is_new : Bool} {old mid there : Child}
     {item : Item} {r : Result (Unit {0}) Clash} → child_trie mid ≡ child_trie old
-    → child_origins mid ≡ child_origins old → LeadsOn a rows keys (level + 1) is_new mid there
+    → child_origins mid ≡ child_origins old → Leads a rows keys (level + 1) is_new mid there
     → TakesHeaderInItem a rows keys level n (out-Child there).item item r
     → TakesHeaderAtKey a rows keys level n is_new old (holding there item) r
 from_item {a} {rows} {keys} {level} {n} {is_new} {old} {mid} {there} {item} {r} same came on from =
-    let same_course = on.leads.same in
-    let i = (out-Child there).item in
-    let at = (out-Child there).start in
-    let s = (out-Child there).section in
-    let b = trie_before is_new (item_trie (out-Child mid).item) in
-    let before : b ≡ trie_before is_new (child_trie old) =
-    ap (trie_before is_new) (sym (child_item_trie mid) ∙ same) in
-    let was = origins_before is_new (item_origins (out-Child mid).item at s) in
-    let was_is : was ≡ origins_before is_new (child_origins old) =
-    ap₂ (λ at s. origins_before is_new (item_origins (out-Child mid).item at s)) on.start on.section
-    ∙ ap (origins_before is_new) (sym (child_seen mid) ∙ came) in
-    let way_is : way_at a keys b ≡ way_by a keys (item_trie i) = ap (λ (c : Course). c.way) same_course in record {
-      entered = rw (
-        holding_trie there item,
-        ← before,
-        ap (λ (c : Course). c.entered) same_course,
-        ap (λ (c : Course). c.steps) same_course,
-      ) from.entered;
-      named = rw (← before, ap (λ (c : Course). c.met) same_course) from.named;
-      origins = rw (holding_origins there item, ← before, way_is, ← was_is) (IfOk-weaker r _ _
-          (λ x grows. grows_after (way_by a keys (item_trie i)) (rows_origins n rows) was (item_origins i at s)
-          (item_origins item at s) (on.leads.keeps at s) (grows at s)) from.origins);
-      marks = rw (holding_origins there item, ← before, way_is) (IfOk-weaker r _ _ (λ x marks. marks at s) from.marks);
+    let out = ap out-Child on.holds ∙ out_holding mid on.item in
+    let takes = rw (ap (λ o. o.item) out) at from in
+    let at = (out-Child mid).start in
+    let s = (out-Child mid).section in
+    let now_is = holding_origins there item ∙ ap (λ o. item_origins item o.start o.section) out in
+    let way_is = ap (λ (c : Course). c.way) on.same in record {
+      entered = rw (holding_trie there item, ← same, child_item_trie mid)
+          (rw (ap (λ (c : Course). c.entered) on.same, ap (λ (c : Course). c.steps) on.same) takes.entered);
+      named = rw (← same, child_item_trie mid, ap (λ (c : Course). c.met) on.same) takes.named;
+      origins = rw (now_is, ← same, child_item_trie mid, way_is, ← came, child_seen mid)
+          (IfOk-weaker r _ _ (λ x grows. λ p not. grows at s p not ∙ rw (on.keeps at s p not) refl) takes.origins);
+      marks = rw (now_is, ← same, child_item_trie mid, way_is) (IfOk-weaker r _ _ (λ x marks. marks at s) takes.marks);
     }
 
 -- A child to which no table is added leads on to nothing.
@@ -225,11 +237,10 @@ pub from_none : {rows : Rows} {level n : ℕ} {old now : Child} {r : Result (Uni
     → ((rows : Rows) → NamesObstacle (element_obstacle (level + 1) rows (item_trie (out-Child mid).item)) clash)
     → IsErrAnd r (λ f. f ≡ clash) → TakesHeaderAtKey true rows [] level n false old now r
 from_none {rows} {level} {n} {old} {now} {r} mid clash same out named is =
-    let before = sym (child_item_trie mid) ∙ same in
     let p = err_from_is_err_and r is in
     rw (p.1, p.2) (record {
-      entered = rw (← before) (out rows);
-      named = rw (← before) (named rows);
+      entered = rw (← same, child_item_trie mid) (out rows);
+      named = rw (← same, child_item_trie mid) (named rows);
       origins = tt;
       marks = tt;
     })

@@ -2,7 +2,7 @@
 use Rattle.std.proofs.Common.{◌≡◌, inl, inr, ℕ, suc, ◌+◌, ◌<◌, ◌≤◌, Bool, true, false, List, [], ◌∷◌, ◌++◌, length}
 use Rattle.std.proofs.Common.{Option, Some, None, Result, Ok, Err, refl, ap, sym, ◌∙◌, arith, option_map, length-append}
 use Rattle.std.specs.Option.{option_or}
-use Rattle.std.proofs.lemmas.Bool.{cases_lt, false≢true}
+use Rattle.std.proofs.lemmas.Bool.{cases_lt}
 use Rattle.basic_toml_value.specs.Nesting.{nesting_limit}
 use Rattle.basic_toml_value.specs.Data.{Data}
 use Rattle.basic_toml_grammar.specs.Sections.{KeyTexts, Rows, no_rows}
@@ -36,32 +36,24 @@ abbrev pub array_of : List Trie → Trie → Trie
 array_of before latest =
     trie (Some (standing.array (suc (length before)))) None (by_numbers 0 (before ++ latest ∷ []))
 
--- what is entered further on is entered here
-pub entered_on : {e : Option Trie} {l m : ℕ} {after : Trie} (w : Option Trie) (t : Trie) (rows : Rows)
-    (f : Trie → Trie) (r : Result (Unit {0}) Clash) → e ≡ option_map f w → l ≡ m → after ≡ f t
-    → EntersItem w rows m t r → EntersItem e rows l after r
-entered_on w t rows f (Ok x) goes level made_of is = record {
-  gives = goes ∙ ap (option_map f) is.gives ∙ ap Some (sym made_of);
-  apart = is.apart;
-  fits = rw level is.fits;
-}
-entered_on w t rows f (Err Memory) goes level made_of out = tt
-entered_on w t rows f (Err Deep) goes level made_of out = rw level out
-entered_on w t rows f (Err _) goes level made_of (inl clash) = inl clash
-entered_on w t rows f (Err _) goes level made_of (inr none) = inr (goes ∙ ap (option_map f) none)
+-- what is entered further on is entered here, on the same level
+pub entered_on : {l m : ℕ} (w : Option Trie) (t : Trie) (rows : Rows) (f : Trie → Trie) (r : Result (Unit {0}) Clash)
+    → l ≡ m → EntersItem w rows m t r → EntersItem (option_map f w) rows l (f t) r
+entered_on w t rows f (Ok x) level is =
+    record { gives = ap (option_map f) is.gives; apart = is.apart; fits = rw level is.fits }
+entered_on w t rows f (Err Memory) level out = tt
+entered_on w t rows f (Err Deep) level out = rw level out
+entered_on w t rows f (Err _) level (inl clash) = inl clash
+entered_on w t rows f (Err _) level (inr none) = inr (ap (option_map f) none)
 
 -- and rows that are put into a table, or are not
-pub rows_entered : (e : Option Trie) (rows : Rows) (l m : ℕ) (t after : Trie) (r : Result (Unit {0}) Clash)
-    → e ≡ put_rows rows t → m ≡ l → l ≤ nesting_limit → EntersRows rows l t after r → EntersItem e rows m after r
-rows_entered e rows l m t after (Ok x) same level within are = record {
-  gives = same ∙ are.put;
-  apart = are.apart;
-  fits = rw level (grind (arith, are.fits));
-}
-rows_entered e rows l m t after (Err Memory) same level within out = tt
-rows_entered e rows l m t after (Err Deep) same level within out = rw level (grind (arith, out))
-rows_entered e rows l m t after (Err _) same level within (inl clash) = inl clash
-rows_entered e rows l m t after (Err _) same level within (inr none) = inr (same ∙ none)
+pub rows_entered : (rows : Rows) (l : ℕ) (t after : Trie) (r : Result (Unit {0}) Clash) → l ≤ nesting_limit
+    → EntersRows rows l t after r → EntersItem (put_rows rows t) rows l after r
+rows_entered rows l t after (Ok x) within are =
+    record { gives = are.put; apart = are.apart; fits = grind (arith, are.fits) }
+rows_entered rows l t after (Err Memory) within out = tt
+rows_entered rows l t after (Err Deep) within out = grind (arith, out)
+rows_entered rows l t after (Err _) within out = out
 
 -- What a header does from here by the keys that are left: what it enters, how many steps further, what it meets first,
 -- and its way.
@@ -73,10 +65,6 @@ pub record Course : Type 0 where
 
 abbrev pub course_of : Option Trie → ℕ → Option Obstacle → Path → Course
 course_of e n o w = record { entered = e; steps = n; met = o; way = w }
-
-pub same_course : {e f : Option Trie} {m n : ℕ} {o p : Option Obstacle} {v w : Path} → e ≡ f → m ≡ n → o ≡ p → v ≡ w
-    → course_of e m o v ≡ course_of f n p w
-same_course e n o w = cc
 
 -- from a table of a level, from what stands at a key of one that is on the level before, and from what stood there
 abbrev pub course : Bool → Rows → KeyTexts → ℕ → Trie → Course
@@ -94,7 +82,7 @@ course_at a rows keys l t =
 -- where no element is added, it goes by the keys alone
 pub no_last : (a : Bool) (rows : Rows) (keys : KeyTexts) (l : ℕ) (t : Trie) → is_last a keys ≡ false
     → course_at a rows keys l t ≡ course_by a rows keys l t
-no_last true rows [] l t not = absurd (false≢true (sym not))
+no_last true rows [] l t not = absurd (cc)
 no_last _ rows _ l t not = refl
 
 -- a table that stands at a key, and the latest of some tables
@@ -118,6 +106,13 @@ walk_fresh a rows keys = ap (λ (c : Course). c.entered) (course_fresh a rows ke
 pub steps_fresh : (a : Bool) (keys : KeyTexts) → steps_to a keys fresh ≡ steps_to a keys nothing
 steps_fresh a keys = ap (λ (c : Course). c.steps) (course_fresh a no_rows keys 0)
 
+pub met_fresh : (a : Bool) (rows : Rows) (keys : KeyTexts) (l : ℕ)
+    → keys_obstacle a rows keys l fresh ≡ keys_obstacle a rows keys l nothing
+met_fresh a rows keys l = ap (λ (c : Course). c.met) (course_fresh a rows keys l)
+
+pub way_fresh : (a : Bool) (keys : KeyTexts) → way a keys fresh ≡ way a keys nothing
+way_fresh a keys = ap (λ (c : Course). c.way) (course_fresh a no_rows keys 0)
+
 -- a header's step at a key of a table
 pub course_through : (a : Bool) (rows : Rows) (k : List ℕ) (keys : KeyTexts) (l : ℕ) (p n d : Bool) (ts : Tries)
     → course a rows (k ∷ keys) l (made p n d ts)
@@ -131,9 +126,8 @@ course_through _ rows k _ l p n d ts = refl
 -- a table above the limit
 pub deep_met : (a : Bool) (rows : Rows) (keys : KeyTexts) (l : ℕ) (t : Trie) → nesting_limit < l
     → keys_obstacle a rows keys l t ≡ Some too_deep
-deep_met a rows [] l t over = behind_high l _ over
 deep_met a rows (k ∷ []) l t over = behind_high l _ over
-deep_met a rows (k ∷ m ∷ keys) l t over = behind_high l _ over
+deep_met a rows _ l t over = behind_high l _ over
 
 -- the level of an array is no other obstacle than that of its latest table
 array_aside : (a : Bool) (rows : Rows) (keys : KeyTexts) (l : ℕ) (t : Trie)
@@ -147,16 +141,13 @@ array_aside a rows keys l t = elim (cases_lt nesting_limit l) [
 pub enter_latest : (a : Bool) (rows : Rows) (keys : KeyTexts) (before : List Trie) (t : Trie)
     → entered_by a rows keys (array_of before t) ≡ option_map (λ u. array_of before u) (walk a rows keys t)
 enter_latest a rows keys before t =
-    rw ((at_latest 0 (length before) before t (omega arith)).1 (λ t. walk a rows keys t))
-    (mapped_twice (λ ts. trie (Some (standing.array (suc (length before)))) None ts)
-    (λ u. by_numbers 0 (before ++ u ∷ [])) (walk a rows keys t))
+    rw ((at_latest 0 (length before) before t (omega arith)).1 (λ t. walk a rows keys t), mapped_twice) refl
 
 pub course_latest : (a : Bool) (rows : Rows) (keys : KeyTexts) (l m : ℕ) (before : List Trie) (t : Trie) → l + 1 ≡ m
     → course_by a rows keys l (array_of before t) ≡ in_latest before (course a rows keys m t)
 course_latest a rows keys l m before t next =
     let latest = (at_latest 0 (length before) before t (omega arith)).0 in
-    same_course (enter_latest a rows keys before t) (rw latest refl)
-    (rw (latest, array_aside a rows keys l t, next) refl) (rw latest refl)
+    rw (enter_latest a rows keys before t, latest, array_aside a rows keys l t, next) refl
 
 -- one more element than some tables
 pub put_next : (rows : Rows) (before : List Trie) (t : Trie)
@@ -165,23 +156,20 @@ pub put_next : (rows : Rows) (before : List Trie) (t : Trie)
 put_next rows before t =
     let more = before ++ t ∷ [] in
     let len : length more ≡ suc (length before) = omega (arith, length-append before (t ∷ [])) in
-    rw (len, (at_next 0 (suc (length before)) more (omega arith)).1 (λ t. put_table rows t))
-    (mapped_twice (λ ts. trie (Some (standing.array (suc (suc (length before))))) None ts)
-    (λ u. by_numbers 0 (more ++ u ∷ [])) (put_table rows nothing))
+    rw (len, (at_next 0 (suc (length before)) more (omega arith)).1 (λ t. put_table rows t), mapped_twice) refl
 
 pub course_next : (rows : Rows) (l : ℕ) (before : List Trie) (t : Trie)
     → course_at true rows [] l (array_of before t) ≡ course_by true rows [] l (array_of (before ++ t ∷ []) fresh)
 course_next rows l before t =
     let more = before ++ t ∷ [] in
-    let len : suc (length before) ≡ length more = omega (arith, length-append before (t ∷ [])) in
-    same_course (put_next rows before t ∙ sym (enter_latest true rows [] more fresh)) refl
-    (rw ((at_next 0 (suc (length before)) more (omega arith)).0, (at_latest 0 (length more) more fresh (omega arith)).0)
-    refl) (ap (λ n. number n ∷ []) len)
+    let len : length more ≡ suc (length before) = omega (arith, length-append before (t ∷ [])) in
+    let next = (at_next 0 (suc (length before)) more (omega arith)).0 in
+    let latest = (at_latest 0 (suc (length before)) more fresh (omega arith)).0 in
+    rw (put_next rows before t, enter_latest true rows [] more fresh, len, next, latest) refl
 
 -- a value bars a header
 pub course_barred : (a : Bool) (rows : Rows) (keys : KeyTexts) (l : ℕ) (d : Data) → l ≤ nesting_limit
     → (entered_by a rows keys (leaf d) ≡ None)
     × (obstacle_by a rows keys l (leaf d) ≡ Some (in_the_way (at_header (suc (length keys)))))
-course_barred a rows [] l d within = (refl, behind_low l _ within)
 course_barred a rows (k ∷ []) l d within = (refl, behind_low l _ within)
-course_barred a rows (k ∷ m ∷ keys) l d within = (refl, behind_low l _ within)
+course_barred a rows _ l d within = (refl, behind_low l _ within)

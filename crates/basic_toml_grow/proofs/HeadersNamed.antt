@@ -4,7 +4,7 @@ use Rattle.std.proofs.Common.{refl, sym, ap, ◌∙◌, arith}
 use Rattle.std.specs.List.{join_with_byte}
 use Rattle.std.proofs.lemmas.List.{append_assoc, length-map, take-map, take_more}
 use Rattle.basic_toml_tokens.specs.Ascii.{period}
-use Rattle.basic_toml_grammar.specs.Sections.{KeyTexts, texts}
+use Rattle.basic_toml_grammar.specs.Sections.{KeyTexts}
 use Rattle.basic_toml_grammar.specs.Faults.{duplicate_key}
 use Rattle.basic_toml_grammar.specs.NamedClash.{nth_key}
 use Rattle.basic_toml_grammar.specs.Stops.{at_header, stop_fault}
@@ -44,19 +44,13 @@ pub header_fault_is : (s : Section) (left n : ℕ) (key : List ℕ) (offset : �
     → path ≡ header_texts (take n s.header.items)
     → fault_within (duplicate_key key) offset path ≡ stop_fault (section_of s) (at_header left)
 header_fault_is s left n key offset path number is_key is_path =
-    let at : length (section_of s).header - left ≡ n =
-    ap (λ m. m - left) (length-map s.header.items key_of) ∙ sym number in
-    let first : texts (take n (section_of s).header) ≡ path =
-    ap texts (take-map key_of n s.header.items) ∙ sym is_path in
-    rw (at, first, is_key) refl
+    rw (length-map, ← number, take-map, ← is_path, is_key) refl
 
 -- keys joined by periods, and one more
 join_more : (p k : List ℕ) (ps : KeyTexts)
     → join_with_byte period (p ∷ ps ++ k ∷ []) ≡ join_with_byte period (p ∷ ps) ++ period ∷ k
 join_more p k [] = refl
-join_more p k (q ∷ ps) =
-    ap (λ l. p ++ period ∷ l) (join_more q k ps)
-    ∙ sym (append_assoc p (period ∷ join_with_byte period (q ∷ ps)) (period ∷ k))
+join_more p k (q ∷ ps) = rw (join_more q k ps, append_assoc) refl
 
 pub joined_first : (keys : KeyTexts) (n : ℕ) (k name : List ℕ) → n ≡ 0 → n < length keys → k ≡ get_or keys n k
     → name ≡ join_with_byte period (take n keys) → name ++ k ≡ join_with_byte period (take (n + 1) keys)
@@ -70,8 +64,4 @@ pub joined_next : (keys : KeyTexts) (n : ℕ) (k name : List ℕ) → 0 < n → 
 joined_next [] n k name some within read is = absurd (omega (arith, within))
 joined_next (p ∷ keys) zero k name some within read is = absurd (omega (arith, some))
 joined_next (p ∷ keys) (suc n) k name some within read is =
-    ap (λ l. (l ++ period ∷ []) ++ k) is
-    ∙ append_assoc (join_with_byte period (p ∷ take n keys)) (period ∷ []) k
-    ∙ sym (join_more p k (take n keys))
-    ∙ sym (ap (join_with_byte period) (take_more (p ∷ keys) (suc n) k within
-    ∙ ap (λ k. take (suc n) (p ∷ keys) ++ k ∷ []) (sym read)))
+    rw (is, append_assoc, take_more (p ∷ keys) (suc n) k within, ← read) (sym (join_more p k (take n keys)))

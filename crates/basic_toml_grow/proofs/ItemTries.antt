@@ -2,8 +2,10 @@
 use Rattle.std.proofs.Common.{◌≡◌, List, ℕ, Some, None, Box, Global, rules}
 use Rattle.basic_toml_grammar.specs.Standing as standings
 use Rattle.basic_toml_grammar.specs.Trie.{trie, standing}
-use Rattle.basic_toml_plain.specs.Tries.{by_keys}
-use Rattle.basic_toml_grow.specs.declared.item.Item.{the_lemmas}
+use Rattle.basic_toml_grammar.specs.Mentions.{finished}
+use Rattle.basic_toml_plain.specs.Tries.{by_keys, leaf}
+use Rattle.basic_toml_plain.specs.Plain.{plain_array}
+use Rattle.basic_toml_grow.specs.declared.item.Item.{the_lemmas, Plain}
 use Rattle.basic_toml_grow.specs.declared.item.Item as items
 use Rattle.basic_toml_grow.specs.declared.item.Item.TheViews.{roll-Child}
 use Rattle.basic_toml_grow.specs.declared.item.Child.{Child, out-Child}
@@ -12,6 +14,7 @@ use Rattle.basic_toml_grow.specs.Item.{item_trie, child_trie, table_trie}
 use Rattle.basic_toml_grow.specs.Simple.{with_entries}
 use Rattle.basic_toml_value.specs.Growth.{with_value}
 use Rattle.basic_toml_grow.proofs.KeysInATrie.{tries_of}
+use Rattle.basic_toml_read.specs.declared.section.Element.{Element}
 
 -- the trie of a child is that of its item
 pub child_item_trie : (c : Child) → child_trie c ≡ item_trie (out-Child c).item
@@ -48,3 +51,7 @@ with_entries_trie t ps = search (rules, the_lemmas)
 pub table_child_trie : (at s : ℕ) (t : Box Table Global)
     → child_trie (roll-Child (record { start = at; section = s; item = items.Table t })) ≡ table_trie t.value
 table_child_trie at s t = search (rules, the_lemmas)
+
+-- an array of plain values, kept as it is read
+pub plain_trie : (es : List Element) → item_trie (Plain es) ≡ leaf (finished (plain_array es))
+plain_trie es = search (rules, the_lemmas)

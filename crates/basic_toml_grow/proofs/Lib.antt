@@ -15,7 +15,6 @@ pub mod ItemTries
 pub mod ItemsStand
 pub mod TablesOpened
 pub mod HeadersEntered
-pub mod HeadersStopped
 pub mod RowsEntered
 pub mod MetTellsStop
 pub mod NoObstacles
@@ -23,16 +22,11 @@ pub mod RowsLeft
 pub mod RowValues
 pub mod ElementsLeft
 pub mod Origins
-pub mod HeadersLead
 pub mod HeadersGoOn
 pub mod ObstaclesAreStops
-pub mod ObstaclesAreLevels
 pub mod ClashSaysMet
 pub mod InlineTables
-pub mod PlainArrays
 pub mod SimpleRows
 pub mod SectionTables
 pub mod SectionsEntered
-pub mod SectionsAdded
 pub mod RowsKept
-pub mod SectionsUnfolded

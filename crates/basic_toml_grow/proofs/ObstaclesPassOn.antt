@@ -1,6 +1,7 @@
 -- A clash that names what is met first at a step names what the whole meets first; and which levels are obstacles.
-use Rattle.std.proofs.Common.{◌≡◌, ℕ, ◌<◌, ◌≤◌, Bool, true, false, cond, nat_lt, Option, Some, None, ap, arith}
+use Rattle.std.proofs.Common.{◌≡◌, ℕ, ◌<◌, ◌≤◌, Option, Some, None, ap, arith}
 use Rattle.std.specs.Option.{option_or}
+use Rattle.std.proofs.lemmas.Bool.Decides.{nat_tests}
 use Rattle.basic_toml_value.specs.Nesting.{nesting_limit}
 use Rattle.basic_toml_grow.specs.declared.clash.Clash.{Clash}
 use Rattle.basic_toml_grow.specs.declared.clash.Clash.TheVariants.{Memory, Deep}
@@ -8,14 +9,10 @@ use Rattle.basic_toml_grow.specs.Clash.{Obstacle, too_deep, in_the_way, NamesObs
 use Rattle.basic_toml_grow.specs.Obstacles.{above}
 
 pub low : (l : ℕ) → l ≤ nesting_limit → above l ≡ None
-low l within =
-    let is : nat_lt nesting_limit l ≡ false = grind arith in
-    ap (λ (b : Bool). cond b (Some too_deep) None) is
+low l within = grind (arith, nat_tests)
 
 pub high : (l : ℕ) → nesting_limit < l → above l ≡ Some too_deep
-high l over =
-    let is : nat_lt nesting_limit l ≡ true = grind arith in
-    ap (λ (b : Bool). cond b (Some too_deep) None) is
+high l over = grind (arith, nat_tests)
 
 -- what is behind a level
 pub behind_low : (l : ℕ) (o : Option Obstacle) → l ≤ nesting_limit → option_or (above l) o ≡ o

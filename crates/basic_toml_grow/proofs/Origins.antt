@@ -2,5 +2,3 @@
 pub mod OriginsSeen
 pub mod RowsPlaceOrigins
 pub mod HeadersPlaceOrigins
-pub mod HeadersMark
-pub mod ElementsPlaceOrigins

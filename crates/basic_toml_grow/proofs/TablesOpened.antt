@@ -1,56 +1,33 @@
 -- The table that a header names, and the array of tables that it adds an element to, as contracts say it.
-use Rattle.std.proofs.Common.{◌≡◌, ℕ, ◌+◌, ◌≤◌, true, false, List, [], map}
-use Rattle.std.proofs.Common.{refl, arith, rules, Some, None, Vec, Box, Global, Result}
+use Rattle.std.proofs.Common.{◌≡◌, ℕ, ◌≤◌, true, false, List, [], map, refl, add-zero, rules, Some, None, Vec, Box}
+use Rattle.std.proofs.Common.{Global, Result}
 use Rattle.std.proofs.lemmas.List.{length-map}
 use Rattle.basic_toml_value.specs.Nesting.{nesting_limit}
 use Rattle.basic_toml_grammar.specs.Sections.{Rows}
 use Rattle.basic_toml_grammar.specs.Standing as standings
-use Rattle.basic_toml_grammar.specs.Trie.{Trie, trie, put_rows, put_table}
+use Rattle.basic_toml_grammar.specs.Trie.{trie, put_rows, put_table}
 use Rattle.basic_toml_read.specs.declared.section.Row.{Row}
 use Rattle.basic_toml_plain.specs.Tries.{by_keys, row_trie, rows_trie}
 use Rattle.basic_toml_plain.specs.PlainTables.{SectionTable, SectionTables}
 use Rattle.basic_toml_grow.specs.declared.clash.Clash.{Clash}
 use Rattle.basic_toml_grow.specs.declared.item.Item.{the_lemmas, Tables}
 use Rattle.basic_toml_grow.specs.declared.item.Item as items
-use Rattle.basic_toml_grow.specs.declared.item.Item.TheOpen.{Table-F}
-use Rattle.basic_toml_grow.specs.declared.item.Item.TheViews.{roll-Table}
-use Rattle.basic_toml_grow.specs.declared.item.Child.{Child}
 use Rattle.basic_toml_grow.specs.declared.item.Table.{Table, out-Table}
 use Rattle.basic_toml_grow.specs.Item.{item_trie, table_trie}
-use Rattle.basic_toml_grow.specs.Rows.{EntersRows}
+use Rattle.basic_toml_grow.specs.Takes.{TakesRows}
 use Rattle.basic_toml_grow.specs.Headers.{EntersHeader}
 use Rattle.basic_toml_grow.proofs.ItemTries.{table_entries_trie}
 use Rattle.basic_toml_grow.proofs.HeadersInATrie.{array_of, rows_entered}
 
--- a table as the code changes it: it is named, and then it gets its section
-abbrev pub named_fields : Table → Table-F items.Item Child Table
-named_fields t =
-    let o = out-Table t in
-    record { passed = o.passed; named = true; dotted = o.dotted; section = o.section; entries = o.entries }
-
-abbrev pub numbered_fields : ℕ → Table → Table-F items.Item Child Table
-numbered_fields n t =
-    let o = out-Table t in
-    record { passed = o.passed; named = o.named; dotted = o.dotted; section = n; entries = o.entries }
-
--- the table that takes the rows
-abbrev pub opened_table : Table → ℕ → Table
-opened_table t n = roll-Table (numbered_fields n (roll-Table (named_fields t)))
-
 -- a table that is named takes the rows of a section
-pub open_named : (t : Table) (n : ℕ) (rows : Rows) (level : ℕ) (after : Trie) (r : Result (Unit {0}) Clash)
+pub open_named : {rows : Rows} {n level : ℕ} {opened after : Table} {r : Result (Unit {0}) Clash} (t : Table)
+    → TakesRows rows n level opened after r → out-Table opened ≡ record (out-Table t) { named = true; section = n }
     → (out-Table t).named ≡ false → (out-Table t).dotted ≡ false → level ≤ nesting_limit
-    → EntersRows rows level (table_trie (opened_table t n)) after r
-    → EntersHeader false rows [] level (table_trie t) after r
-open_named t n rows level after r named dotted within are =
-    let o = out-Table t in
-    let is : out-Table (opened_table t n)
-    ≡ record { passed = o.passed; named = true; dotted = o.dotted; section = n; entries = o.entries } =
-    search (rules, the_lemmas) in
-    let same : put_table rows (table_trie t) ≡ put_rows rows (table_trie (opened_table t n)) =
-    rw (table_entries_trie t, table_entries_trie (opened_table t n), is, named, dotted) refl in
-    rows_entered (put_table rows (table_trie t)) rows level (level + 0) (table_trie (opened_table t n)) after r same
-    (omega arith) within are
+    → EntersHeader false rows [] level (table_trie t) (table_trie after) r
+open_named {rows} {n} {level} {opened} {after} {r} t takes is named dotted within =
+    let same : put_table rows (table_trie t) ≡ put_rows rows (table_trie opened) =
+    rw (table_entries_trie t, table_entries_trie opened, is, named, dotted) refl in
+    rw (same, add-zero) (rows_entered rows level (table_trie opened) (table_trie after) r within takes.entered)
 
 pub tables_trie : (tables : Box (Vec Table Global × Table) Global)
     → item_trie (Tables tables) ≡ array_of (map table_trie tables.value.0.items) (table_trie tables.value.1)

@@ -8,7 +8,7 @@ use Rattle.basic_toml_grammar.specs.Faults.{Fault}
 use Rattle.basic_toml_grammar.specs.Trie.{Trie, nothing, put_sections}
 use Rattle.basic_toml_grammar.proofs.Naming.EveryClashIsNamed.{named_clashes}
 use Rattle.basic_toml_grow.specs.Obstacles.{first_obstacle}
-use Rattle.basic_toml_grow.proofs.HeadersStopped.{met_fresh}
+use Rattle.basic_toml_grow.proofs.HeadersInATrie.{met_fresh}
 use Rattle.basic_toml_grow.specs.Clash.{obstacle_fault}
 use Rattle.basic_toml_grow.specs.Crossed.{first_crossed}
 use Rattle.basic_toml_grow.proofs.ValuesOnTheWay.{none_left}

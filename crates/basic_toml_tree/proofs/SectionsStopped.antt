@@ -23,9 +23,8 @@ use Rattle.basic_toml_tree.specs.FirstStop.{Stands, Entered, StopsSection, Secti
 use Rattle.basic_toml_grow.specs.Crossed.{first_crossed}
 use Rattle.basic_toml_grow.proofs.CrossedIsFault.{tells_sections}
 use Rattle.basic_toml_tree.proofs.SectionsEntered.{deep_by_path}
-use Rattle.basic_toml_grow.proofs.HeadersStopped.{met_fresh}
-use Rattle.basic_toml_grow.proofs.ObstaclesAreStops.{met_stops}
-use Rattle.basic_toml_grow.proofs.ObstaclesAreLevels.{met_deep}
+use Rattle.basic_toml_grow.proofs.HeadersInATrie.{met_fresh}
+use Rattle.basic_toml_grow.proofs.ObstaclesAreStops.{met_deep, met_stops}
 
 -- the first sections of a list with keys, and the others
 pub keyed_parts : (earlier later : List Section) → all_keyed (earlier ++ later) ≡ true

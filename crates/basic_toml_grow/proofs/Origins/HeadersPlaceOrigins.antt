@@ -1,78 +1,175 @@
--- The way of a header through the tree: what its rows bring comes at the way's end.
-use Rattle.std.proofs.Common.{◌≡◌, ℕ, Bool, false, List, [], ◌∷◌, refl, ap, sym, ◌∙◌, rules, Box, Global}
-use Rattle.std.specs.Prelude.{◌&&◌}
+-- The way of a header through the tree: what its rows bring comes at the way's end, and headers made what stands on it,
+-- of which the section of this one is the latest that leads there. It goes on into the latest element of an array of
+-- tables, or into one that is added.
+use Rattle.std.proofs.Common.{append-nil, inl, inr, ◌≡◌, ℕ, false, List, [], ◌∷◌, refl, ap, sym, ◌∙◌, Box, Global, true}
+use Rattle.std.proofs.Common.{zero, suc, rules, ◌++◌, Option, Some, None, map, arith, length, slice_get, Vec, nat_eq}
+use Rattle.std.proofs.Common.{◌||◌, if◌then◌else◌, bytes_eq}
+use Prim.Native.Nat.compare
 use Rattle.std.specs.Option.{option_or}
-use Rattle.std.proofs.lemmas.Bool.{false≢true}
+use Rattle.std.proofs.lemmas.Bool.{and_parts, cases_Bool}
+use Rattle.std.proofs.lemmas.Slice.Eq.{bytes_eq-Decides}
+use Rattle.std.proofs.lemmas.Simd.{map-map}
+use Rattle.std.proofs.lemmas.List.{length-map, map_push}
 use Rattle.basic_toml_index.proofs.DistinctKeys.{bytes_eq-same}
-use Rattle.basic_toml_grammar.specs.Sections.{KeyTexts, no_rows}
-use Rattle.basic_toml_grammar.specs.Steps.{Step, key, Path, begins}
-use Rattle.basic_toml_grammar.specs.Trie.{nothing}
-use Rattle.basic_toml_grow.specs.declared.item.Item.{the_lemmas}
+use Rattle.basic_toml_grammar.specs.Steps.{Step, key, Path, begins, number, step_eq}
+use Rattle.basic_toml_grow.specs.declared.item.Item.{the_lemmas, Tables}
 use Rattle.basic_toml_grow.specs.declared.item.Item as items
 use Rattle.basic_toml_grow.specs.declared.item.Child.{Child, out-Child}
 use Rattle.basic_toml_grow.specs.declared.item.Table.{Table}
 use Rattle.basic_toml_grow.specs.Item.{table_trie}
 use Rattle.basic_toml_value.specs.declared.pairs.growth.Place.{Place}
-use Rattle.basic_toml_grow.specs.Origins.{Origin, Origins, child_origins, entry, item_origins, table_within}
-use Rattle.basic_toml_grow.specs.Origins.{no_origins, origins_before, with_more, or_else, along}
-use Rattle.basic_toml_grow.specs.Ways.{way, GrowsAlong}
-use Rattle.basic_toml_grow.proofs.HeadersInATrie.{fresh, Course, course_fresh}
-use Rattle.basic_toml_grow.proofs.HeadersEntered.{holding, out_holding, Passes}
-use Rattle.basic_toml_grow.proofs.TablesOpened.{opened_table}
-use Rattle.basic_toml_grow.proofs.Origins.OriginsSeen.{child_seen, below_seen, table_item_seen}
+use Rattle.basic_toml_grow.specs.Origins.{Origin, Origins, child_origins, entry, item_origins, table_within, no_origins}
+use Rattle.basic_toml_grow.specs.Origins.{origins_before, along, under, at_numbers, array_origin, Within, of_table}
+use Rattle.basic_toml_grow.specs.Origins.{or_else}
+use Rattle.basic_toml_grow.specs.Ways.{GrowsAlong, IsMarked, MarksWay, MarksTable}
+use Rattle.basic_toml_grow.proofs.HeadersInATrie.{fresh}
+use Rattle.basic_toml_grow.proofs.HeadersEntered.{holding, Passes}
 use Rattle.basic_toml_grow.proofs.Origins.OriginsSeen.{table_origins, fresh_within, grows_at}
-
-pub way_fresh : (a : Bool) (keys : KeyTexts) → way a keys fresh ≡ way a keys nothing
-way_fresh a keys = ap (λ (c : Course). c.way) (course_fresh a no_rows keys 0)
-
--- the table that is named, and the rows that are put into it
-pub opened : (t : Table) (n : ℕ) (rows : Origins) (u : Table)
-    → table_within u ≡ with_more (table_within (opened_table t n)) rows
-    → table_origins u ≡ or_else (table_origins t) rows
-opened t n rows u comes =
-    ap (λ w. w.below) comes
-    ∙ ap (λ f. or_else f rows) (below_seen (opened_table t n) ∙ search (rules, the_lemmas) ∙ sym (below_seen t))
+use Rattle.basic_toml_grow.proofs.Origins.OriginsSeen.{made_seen, section_seen, stands_now, tables_seen, or_none}
 
 -- a child with another item
 pub holding_origins : (c : Child) (i : items.Item)
     → child_origins (holding c i) ≡ item_origins i (out-Child c).start (out-Child c).section
-holding_origins c i =
-    child_seen (holding c i) ∙ ap (λ o. item_origins o.item o.start o.section) (out_holding c i)
+holding_origins c i = search (rules, the_lemmas)
 
--- a table that a header passes
-pub passed_grows : {gives : Child → Type 0} {k : List ℕ} {t u : Table} {p : Place} {there now : Child} {n : ℕ}
-    → Passes gives k t p there now n u → (w : Path) (rows : Origins)
-    → GrowsAlong w rows (origins_before p.is_new (child_origins there)) (child_origins now)
-    → GrowsAlong (key k ∷ w) rows (table_origins t) (table_origins u)
-passed_grows {k = k} {t = t} {u = u} {p = p} {there = there} {now = now} pass w rows grows x not =
-    grows_at t u there now k pass.entries p pass.entered pass.stands (ap (λ o. o.entries) pass.is) (along w rows) x
-    (λ y is. grows y (further y (sym (ap (λ x. begins x (key k ∷ w)) is) ∙ not)))
-  where
-    further : (y : Path) → begins (key k ∷ y) (key k ∷ w) ≡ false → begins y w ≡ false
-    further y not = sym (ap (λ b. b && begins y w) (bytes_eq-same k)) ∙ not
+-- a table that a header passes: what comes into it, and what is marked
+module _ {gives : Child → Type 0} {k : List ℕ} {t u : Table} {p : Place} {there now : Child} {n : ℕ}
+    (pass : Passes gives k t p there now n u) (w : Path) where
+  pub passed_grows : (rows : Origins)
+      → GrowsAlong w rows (origins_before p.is_new (child_origins there)) (child_origins now)
+      → GrowsAlong (key k ∷ w) rows (table_origins t) (table_origins u)
+  passed_grows rows grows x not =
+      grows_at t u there now k pass.entries p pass.entered pass.stands (ap (λ o. o.entries) pass.is) (along w rows) x
+      (λ y is. grows y (rw (is, bytes_eq-same) at not))
 
--- what grows below an origin
-pub entry_grows : (w : Path) (rows before now : Origins) (o q : Origin)
-    → ((s : Step) (p : Path) → begins (s ∷ p) w ≡ false → now (s ∷ p) ≡ or_else before (along w rows) (s ∷ p))
-    → GrowsAlong w rows (entry o before) (entry q now)
-entry_grows w rows before now o q grows [] not = absurd (false≢true (sym not))
-entry_grows w rows before now o q grows (s ∷ p) not = grows s p not
+  pub passed_marks : MarksWay n w (child_origins now) → MarksTable n (key k ∷ w) (table_within u)
+  passed_marks marks = record {
+    made = made_seen u ∙ ap (λ o. o.passed || o.named) pass.is;
+    section = section_seen u ∙ ap (λ o. o.section) pass.is;
+    below = below;
+  }
+    where
+      below : (s : Step) (q : Path) → begins (s ∷ q) (key k ∷ w) ≡ true → IsMarked n (table_origins u (s ∷ q))
+      below (number m) q on = absurd (cc)
+      below (key l) q on =
+          let parts = and_parts (bytes_eq l k) (begins q w) on in
+          let same : l ≡ k = (bytes_eq-Decides l k).0 parts.0 in
+          rw same (rw (stands_now t u there now k pass.entries p pass.entered pass.stands
+          (ap (λ o. o.entries) pass.is) q) (marks q parts.1))
 
 -- what is not on the way comes from where it came before, also where an item is new
 abbrev pub Keeps : Path → Origins → Origins → Type 0
 Keeps w before now = (p : Path) → begins p w ≡ false → now p ≡ before p
 
-pub grows_after : (w : Path) (rows before mid now : Origins) → Keeps w before mid → GrowsAlong w rows mid now
-    → GrowsAlong w rows before now
-grows_after w rows before mid now keeps grows p not =
-    grows p not ∙ ap (λ o. option_or o (along w rows p)) (keeps p not)
-
 pub entry_keeps : (w : Path) (before now : Origins) (o : Origin)
     → ((s : Step) (p : Path) → begins (s ∷ p) w ≡ false → now (s ∷ p) ≡ before (s ∷ p)) → Keeps w before (entry o now)
-entry_keeps w before now o keeps [] not = absurd (false≢true (sym not))
+entry_keeps w before now o keeps [] not = absurd (cc)
 entry_keeps w before now o keeps (s ∷ p) not = keeps s p not
 
-pub new_table_keeps : (w : Path) (t : Box Table Global) (at s : ℕ) → table_trie t.value ≡ fresh
-    → Keeps w no_origins (item_origins (items.Table t) at s)
-new_table_keeps w t at s empty = rw (table_item_seen t at s, fresh_within t.value empty)
-    (entry_keeps w no_origins no_origins _ (λ s p not. refl))
+-- a table that stands at a key
+pub table_marked : (n : ℕ) (w : Path) (t : Within) (at s : ℕ) → MarksTable n w t → MarksWay n w (of_table at s t)
+table_marked n w t at s marks [] on = (marks.made, ap (λ b. if b then t.section else s) marks.made ∙ marks.section)
+table_marked n w t at s marks (r ∷ p) on = marks.below r p on
+
+-- an element that may stand last
+abbrev pub last_of : Option Origins → List Origins
+last_of None = []
+last_of (Some x) = x ∷ []
+
+-- the elements before the last one are as they were; the last has grown, or is new
+pub numbers_grow : (xs : List Origins) (last : Option Origins) (now rows : Origins) (w : Path)
+    → ((s : Step) (q : Path) → begins (s ∷ q) w ≡ false
+    → now (s ∷ q) ≡ or_else (under (slice_get (last_of last) 0)) (along w rows) (s ∷ q))
+    → GrowsAlong (number (length xs) ∷ w) rows (at_numbers (xs ++ last_of last)) (at_numbers (xs ++ now ∷ []))
+numbers_grow xs last now rows w grows [] not = absurd (cc)
+numbers_grow xs last now rows w grows (key k ∷ q) not = refl
+numbers_grow [] last now rows w grows (number zero ∷ []) not = absurd (cc)
+numbers_grow [] last now rows w grows (number zero ∷ s ∷ q) not = grows s q not
+numbers_grow [] None now rows w grows (number (suc m) ∷ q) not = rw compare.suc-zero refl
+numbers_grow [] (Some x) now rows w grows (number (suc m) ∷ q) not = rw compare.suc-zero refl
+numbers_grow (y ∷ xs) last now rows w grows (number zero ∷ q) not = rw compare.zero-suc (sym (or_none (y q)))
+numbers_grow (y ∷ xs) last now rows w grows (number (suc m) ∷ q) not =
+    rw compare.suc-suc (numbers_grow xs last now rows w grows (number m ∷ q) (rw compare.suc-suc at not))
+
+-- one more element after these, in the place of which nothing stood
+pub element_grows : (xs : List Origins) (rows before : Origins) (o q : Origin)
+    → ((s : Step) (p : Path) → before (s ∷ p) ≡ at_numbers xs (s ∷ p))
+    → GrowsAlong (number (length xs) ∷ []) rows before (entry q (at_numbers (xs ++ entry o rows ∷ [])))
+element_grows xs rows before o q same [] not = absurd (cc)
+element_grows xs rows before o q same (s ∷ p) not =
+    rw (same s p) (numbers_grow xs None (entry o rows) rows [] (λ r q not. refl) (s ∷ p) not
+    ∙ ap (λ os. option_or (at_numbers os (s ∷ p)) (along (number (length xs) ∷ []) rows (s ∷ p))) (append-nil xs))
+
+-- from which nothing comes yet
+pub element_keeps : (xs : List Origins) (before : Origins) (o q : Origin)
+    → ((s : Step) (p : Path) → before (s ∷ p) ≡ at_numbers xs (s ∷ p))
+    → Keeps (number (length xs) ∷ []) before (entry q (at_numbers (xs ++ entry o no_origins ∷ [])))
+element_keeps xs before o q same [] not = absurd (cc)
+element_keeps xs before o q same (s ∷ p) not =
+    element_grows xs no_origins before o q same (s ∷ p) not ∙ elim (cases_Bool (step_eq s (number (length xs)))) [
+      | inl is ↦ rw is (or_none _)
+      | inr is ↦ rw is (or_none _)
+    ]
+
+pub none_below : (s : Step) (p : Path) → at_numbers [] (s ∷ p) ≡ None
+none_below (key k) p = refl
+none_below (number n) p = refl
+
+-- what is marked in the last one
+last_is : {A : Type 0} (xs : List A) (x : A) → slice_get (xs ++ x ∷ []) (length xs) ≡ Some x
+last_is [] x = refl
+last_is (y ∷ xs) x = last_is xs x
+
+pub numbers_marked : (n : ℕ) (w : Path) (xs : List Origins) (x : Origins) (o : Origin) → IsMarked n (Some o)
+    → MarksWay n w x → MarksWay n (number (length xs) ∷ w) (entry o (at_numbers (xs ++ x ∷ [])))
+numbers_marked n w xs x o here marks [] on = here
+numbers_marked n w xs x o here marks (key k ∷ q) on = absurd (cc)
+numbers_marked n w xs x o here marks (number i ∷ q) on =
+    let parts = and_parts (nat_eq i (length xs)) (begins q w) on in
+    let same : i ≡ length xs = grind (arith, parts.0) in
+    rw (same, last_is xs x) (marks q parts.1)
+
+-- the elements of an array of tables
+abbrev pub elements_of : ℕ → ℕ → List Table → List Origins
+elements_of at s ts = map (λ t. of_table at s (table_within t)) ts
+
+pub as_many : (at s : ℕ) (ts : List Table) → length (map table_trie ts) ≡ length (elements_of at s ts)
+as_many at s ts = length-map ts table_trie ∙ sym (length-map ts (λ t. of_table at s (table_within t)))
+
+pub array_below : (b : Box (Vec Table Global × Table) Global) (at s : ℕ) → item_origins (Tables b) at s
+    ≡ entry (array_origin at (table_within b.value.1).section)
+    (at_numbers (elements_of at s b.value.0.items ++ of_table at s (table_within b.value.1) ∷ []))
+array_below b at s = rw (tables_seen b at s, map_push, map-map) refl
+
+-- on into the latest element
+pub latest_grows : (old after : Box (Vec Table Global × Table) Global) (w : Path) (rows : Origins)
+    → after.value.0 ≡ old.value.0 → GrowsAlong w rows (table_origins old.value.1) (table_origins after.value.1)
+    → (at s : ℕ) → GrowsAlong (number (length (map table_trie old.value.0.items)) ∷ w) rows
+    (item_origins (Tables old) at s) (item_origins (Tables after) at s)
+latest_grows old after w rows same grows at s =
+    let xs = elements_of at s old.value.0.items in
+    let last = of_table at s (table_within old.value.1) in
+    let now = of_table at s (table_within after.value.1) in
+    rw (array_below old at s, array_below after at s, same, as_many at s old.value.0.items)
+    (entry_keeps (number (length xs) ∷ w) _ (at_numbers (xs ++ now ∷ [])) _
+    (λ r q not. numbers_grow xs (Some last) now rows w (λ r q not. grows (r ∷ q) not) (r ∷ q) not))
+
+pub latest_marks : (old after : Box (Vec Table Global × Table) Global) (n : ℕ) (w : Path) → after.value.0 ≡ old.value.0
+    → MarksTable n w (table_within after.value.1) → (at s : ℕ)
+    → MarksWay n (number (length (map table_trie old.value.0.items)) ∷ w) (item_origins (Tables after) at s)
+latest_marks old after n w same marks at s =
+    rw (array_below after at s, same, as_many at s old.value.0.items)
+    (numbers_marked n w (elements_of at s old.value.0.items) (of_table at s (table_within after.value.1)) _
+    (refl, marks.section) (table_marked n w (table_within after.value.1) at s marks))
+
+-- a table that is added to an array comes from nowhere yet, but for what is on its way
+pub more_keeps : (old after : Box (Vec Table Global × Table) Global) (at s : ℕ)
+    → after.value.0.items ≡ old.value.0.items ++ old.value.1 ∷ [] → table_trie after.value.1 ≡ fresh
+    → Keeps (number (length (map table_trie after.value.0.items)) ∷ []) (item_origins (Tables old) at s)
+    (item_origins (Tables after) at s)
+more_keeps old after at s tables empty =
+    let xs = elements_of at s after.value.0.items in
+    let was : elements_of at s old.value.0.items ++ of_table at s (table_within old.value.1) ∷ [] ≡ xs =
+    sym (rw (tables, map_push) refl) in
+    rw (array_below old at s, array_below after at s, was, fresh_within after.value.1 empty)
+    (rw (as_many at s after.value.0.items) (element_keeps xs (entry _ (at_numbers xs)) _ _ (λ s p. refl)))

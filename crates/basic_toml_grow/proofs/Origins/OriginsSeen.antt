@@ -1,15 +1,13 @@
 -- The origins in a table and in what stands in it, one level at a time, and how they change at a key.
-use Rattle.std.proofs.Common.{◌≡◌, ℕ, true, false, List, [], ◌∷◌, ◌++◌, Option, Some, None}
-use Rattle.std.proofs.Common.{refl, ap, inl, inr, sym, ◌∙◌, map, rules, option_map, slice_get, Vec, Box, Global, codes}
-use Rattle.std.specs.Prelude.{◌||◌}
+use Rattle.std.proofs.Common.{◌≡◌, ℕ, true, false, List, [], ◌∷◌, ◌++◌, Option, Some, None, refl, ap, inl, inr, sym}
+use Rattle.std.proofs.Common.{◌∙◌, map, rules, option_map, slice_get, Vec, Box, Global, codes, ◌||◌, bytes_eq}
 use Rattle.std.specs.Option.{option_or}
-use Rattle.std.specs.Str.{bytes_eq}
 use Rattle.std.proofs.Math.Path.{fun_ext}
 use Rattle.std.proofs.lemmas.Bool.{cases_Bool}
 use Rattle.std.proofs.lemmas.Slice.Eq.{bytes_eq-Decides}
 use Rattle.basic_toml_value.specs.Pairs.{has_key, value_at}
 use Rattle.basic_toml_grammar.specs.Standing as standings
-use Rattle.basic_toml_grammar.specs.Steps.{key, number, Path}
+use Rattle.basic_toml_grammar.specs.Steps.{key, Path}
 use Rattle.basic_toml_grammar.specs.Trie.{trie, no_tries}
 use Rattle.basic_toml_plain.specs.Tries.{by_keys}
 use Rattle.basic_toml_plain.specs.PlainTables.{SectionTables}
@@ -93,9 +91,6 @@ seen_at_key t k p = rw (below_seen t, value_at-map child_origins (out-Table t).e
 pub seen_at_none : (t : Table) → table_origins t [] ≡ None
 seen_at_none t = ap (λ f. f []) (below_seen t)
 
-pub seen_at_number : (t : Table) (n : ℕ) (p : Path) → table_origins t (number n ∷ p) ≡ None
-seen_at_number t n p = ap (λ f. f (number n ∷ p)) (below_seen t)
-
 pub or_none : (o : Option Origin) → option_or o None ≡ o
 or_none None = refl
 or_none (Some o) = refl
@@ -120,37 +115,28 @@ module _ {gives : Child → Type 0} (t u : Table) (there gone : Child) (k : List
       rw (seen_at_key u k q, put, put_at k e.there (out-Table t).entries new p.position e.entered there stands gone)
       refl
 
-  elsewhere : (l : List ℕ) (q : Path) → bytes_eq l k ≡ false → table_origins u (key l ∷ q) ≡ table_origins t (key l ∷ q)
-  elsewhere l q other =
-      rw (
-        seen_at_key u l q,
-        put,
-        kept_elsewhere k e.there (out-Table t).entries new p.position e.entered there stands gone l other,
-      )
-      (sym (seen_at_key t l q))
-
   -- what comes below the key comes into the table
   pub grows_at : (below : Origins) (q : Path)
       → ((r : Path) → q ≡ key k ∷ r
       → child_origins gone r ≡ or_else (origins_before p.is_new (child_origins there)) below r)
       → table_origins u q ≡ or_else (table_origins t) (beyond (key k) below) q
-  grows_at below [] more = rw (seen_at_none u, seen_at_none t) refl
-  grows_at below (number n ∷ q) more = rw (seen_at_number u n q, seen_at_number t n q) refl
   grows_at below (key l ∷ q) more = elim (cases_Bool (bytes_eq l k)) [
-    | inl e ↦
-        let same : l ≡ k = (bytes_eq-Decides l k).0 e in
-        rw (e, same, stood q) (stands_now q ∙ more q (ap (λ l. key l ∷ q) same))
-    | inr e ↦ rw e (elsewhere l q e ∙ sym (or_none (table_origins t (key l ∷ q))))
+    | inl is ↦
+        let same : l ≡ k = (bytes_eq-Decides l k).0 is in
+        rw (is, same, stood q) (stands_now q ∙ more q (ap (λ l. key l ∷ q) same))
+    | inr is ↦
+        let kept = kept_elsewhere k e.there (out-Table t).entries new p.position e.entered there stands gone l is in
+        rw (is, seen_at_key u l q, put, kept, ← seen_at_key t l q) (sym (or_none _))
   ]
+  grows_at below q more = rw (below_seen u, below_seen t) refl
 
 -- nothing comes from a table without entries
 pub no_keys_below : at_keys [] ≡ no_origins
 no_keys_below = fun_ext go
   where
     go : (p : Path) → at_keys [] p ≡ None
-    go [] = refl
     go (key k ∷ p) = refl
-    go (number n ∷ p) = refl
+    go _ = refl
 
 no_entries : (ps : List (List ℕ × Child)) → by_keys (map (λ p. (p.0, child_trie p.1)) ps) ≡ no_tries → ps ≡ []
 no_entries [] e = refl

@@ -1,6 +1,6 @@
 -- A row put into a table: where what it makes comes from.
-use Rattle.std.proofs.Common.{◌≡◌, ℕ, Bool, true, false, List, [], ◌∷◌, ◌++◌, Some, refl, ap}
-use Rattle.std.proofs.Common.{sym, ◌∙◌, ap₂, rules, slice_get, Box, Global}
+use Rattle.std.proofs.Common.{◌≡◌, ℕ, Bool, true, false, List, [], ◌∷◌, ◌++◌, Some, refl, ap, sym, ◌∙◌, ap₂, rules}
+use Rattle.std.proofs.Common.{slice_get, Box, Global}
 use Rattle.std.proofs.Math.Path.{fun_ext}
 use Rattle.basic_toml_grammar.specs.Sections.{KeyTexts}
 use Rattle.basic_toml_grammar.specs.Steps.{key, Path}
@@ -12,13 +12,12 @@ use Rattle.basic_toml_grow.specs.declared.item.Table.{Table, out-Table}
 use Rattle.basic_toml_grow.specs.Simple.{with_entries}
 use Rattle.basic_toml_value.specs.Growth.{with_value, values_of, FindsOrAdds}
 use Rattle.basic_toml_value.specs.declared.pairs.growth.Place.{Place}
-use Rattle.basic_toml_grow.specs.Origins.{Origin, Origins, no_origins, entry, Within, table_origin}
-use Rattle.basic_toml_grow.specs.Origins.{child_origins, of_table, section_in}
-use Rattle.basic_toml_grow.specs.Origins.{table_within, with_more, or_else, origins_before, beyond, row_origins}
+use Rattle.basic_toml_grow.specs.Origins.{Origin, Origins, no_origins, entry, Within, table_origin, child_origins}
+use Rattle.basic_toml_grow.specs.Origins.{of_table, section_in, table_within, with_more, or_else, origins_before}
+use Rattle.basic_toml_grow.specs.Origins.{beyond, row_origins}
 use Rattle.basic_toml_grow.proofs.ItemTries.{entries_with}
 use Rattle.basic_toml_grow.proofs.KeysInATrie.{with_same}
-use Rattle.basic_toml_grow.proofs.Origins.OriginsSeen.{child_seen, table_seen, made_seen, section_seen, table_item_seen}
-use Rattle.basic_toml_grow.proofs.Origins.OriginsSeen.{grows_at}
+use Rattle.basic_toml_grow.proofs.Origins.OriginsSeen.{child_seen, table_seen, table_item_seen, grows_at}
 use Rattle.basic_toml_grow.proofs.MetTellsStop.{dotted_fields}
 
 pub origins_on : (k : List ℕ) (ks : KeyTexts) (last : List ℕ) (o : Origin) (below : Origins)
@@ -42,12 +41,9 @@ module _ {gives : Child → Type 0} (before : Table) (k : List ℕ) (there child
       → table_within after ≡ with_more (table_within before) (beyond (key k) below)
   origins_put after same =
       let put = with_value new p.position child in
-      ap table_within same
-      ∙ within_is (table_within (with_entries before put)) (with_more (table_within before) (beyond (key k) below))
-      (made_seen (with_entries before put) ∙ search (rules, the_lemmas) ∙ sym (made_seen before))
-      (section_seen (with_entries before put) ∙ search (rules, the_lemmas) ∙ sym (section_seen before))
+      rw same (within_is _ _ (search (rules, the_lemmas)) (search (rules, the_lemmas))
       (λ q. grows_at before (with_entries before put) there child k new p e stands (entries_with before put) below q
-      (λ r is. ap (λ f. f r) comes))
+      (λ r is. ap (λ f. f r) comes)))
 
 -- a table with a new key
 pub origins_added : {gives : Child → Type 0} (before : Table) (k : List ℕ) (there : Child)
@@ -55,19 +51,21 @@ pub origins_added : {gives : Child → Type 0} (before : Table) (k : List ℕ) (
     → slice_get (values_of new) p.position ≡ Some there → p.is_new ≡ true
     → table_within (with_entries before new) ≡ with_more (table_within before) (beyond (key k) (child_origins there))
 origins_added before k there new p e stands is_new =
-    origins_put before k there there new p e stands (child_origins there)
-    (ap (λ b. or_else (origins_before b (child_origins there)) (child_origins there)) (sym is_new))
-    (with_entries before new) (ap (with_entries before) (sym (with_same new p.position there stands)))
+    origins_put before k there there new p e stands (child_origins there) (rw is_new refl) (with_entries before new)
+    (rw (with_same new p.position there stands) refl)
 
--- what comes below a new table
+-- an origin here, and what comes below it beside what was there; and what comes below a new table
+or_entry : (o u : Origin) (f g : Origins) → entry o (or_else f g) ≡ or_else (entry o f) (entry u g)
+or_entry o u f g = fun_ext go
+  where
+    go : (p : Path) → entry o (or_else f g) p ≡ or_else (entry o f) (entry u g) p
+    go [] = refl
+    go (s ∷ p) = refl
+
 pub comes_below : (is_new : Bool) (o : Origin) (f g row : Origins) → (is_new ≡ true → f ≡ entry o no_origins)
     → g ≡ or_else f (entry o row) → g ≡ or_else (origins_before is_new f) (entry o row)
 comes_below true o f g row fresh comes =
-    comes ∙ ap (λ f. or_else f (entry o row)) (fresh refl) ∙ fun_ext here
-  where
-    here : (p : Path) → or_else (entry o no_origins) (entry o row) p ≡ or_else no_origins (entry o row) p
-    here [] = refl
-    here (s ∷ p) = refl
+    comes ∙ ap (λ f. or_else f (entry o row)) (fresh refl) ∙ sym (or_entry o o no_origins row)
 comes_below false o f g row fresh comes = comes
 
 -- a table that is now dotted
@@ -81,13 +79,6 @@ pub child_of_table : (t : Box Table Global) (at s : ℕ)
 child_of_table t at s = search (rules, the_lemmas)
 
 -- dots that extend a table: what the row brings comes beside what was there
-or_entry : (o u : Origin) (f g : Origins) → entry o (or_else f g) ≡ or_else (entry o f) (entry u g)
-or_entry o u f g = fun_ext go
-  where
-    go : (p : Path) → entry o (or_else f g) p ≡ or_else (entry o f) (entry u g) p
-    go [] = refl
-    go (s ∷ p) = refl
-
 pub table_extended : (there : Child) (old : Box Table Global) (u now : Table) (row : Origins) (o : Origin)
     → (out-Child there).item ≡ items.Table old → table_within u ≡ table_within old.value
     → table_within now ≡ with_more (table_within u) row

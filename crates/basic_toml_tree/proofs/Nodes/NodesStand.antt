@@ -41,8 +41,7 @@ use Rattle.basic_toml_tree.specs.Outer.{around}
 use Rattle.basic_toml_tree.specs.Paths.{data_by, data_along}
 use Rattle.basic_toml_grow.specs.Origins.{child_origins, item_origins, value_origins}
 use Rattle.basic_toml_tree.proofs.Nodes.PlainNodes.{element_comes}
-use Rattle.basic_toml_grow.proofs.ItemTries.{table_entries_trie}
-use Rattle.basic_toml_grow.proofs.PlainArrays.{plain_trie}
+use Rattle.basic_toml_grow.proofs.ItemTries.{plain_trie, table_entries_trie}
 use Rattle.basic_toml_grow.proofs.ItemsStand.{shape}
 use Rattle.basic_toml_tree.proofs.Nodes.NodesCome.{comes_on, literal_comes}
 use Rattle.basic_toml_tree.proofs.Nodes.Lines.{around_number}

@@ -16,7 +16,7 @@ use Rattle.basic_toml_grammar.proofs.Clash.PathsAgree.{append_none, offsets, pat
 use Rattle.basic_toml_grammar.proofs.Tries.SectionsInATrie.{marks_put}
 use Rattle.basic_toml_tree.specs.FirstStop.{Stands}
 use Rattle.basic_toml_grow.specs.Ways.{way, way_on}
-use Rattle.basic_toml_grow.proofs.Origins.HeadersPlaceOrigins.{way_fresh}
+use Rattle.basic_toml_grow.proofs.HeadersInATrie.{way_fresh}
 
 descend_on : (p q : Path) (t : Trie) → descend (p ++ q) t ≡ descend q (descend p t)
 descend_on [] q t = refl

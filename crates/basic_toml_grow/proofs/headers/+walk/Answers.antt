@@ -1,48 +1,41 @@
-use Rattle.std.proofs.Common.{ℕ, ◌+◌, [], refl, ap, sym, ◌∙◌, arith, rules}
+use Rattle.std.proofs.Common.{ℕ, ◌+◌, [], refl, ap, ◌∙◌, arith, rules}
 use denote.Hole.Carrier.{out}
 use Rattle.std.specs.Box as boxes
-use Rattle.std.proofs.lemmas.Bool.{false≢true}
 use Rattle.basic_toml_read.specs.declared.section.Raw as raws
 use Rattle.basic_toml_read.specs.declared.section.Rows as tables
 use Rattle.basic_toml_read.specs.SectionView.{header_texts, rows_view}
-use Rattle.basic_toml_plain.specs.Plain.{are_few_simple}
 use Rattle.basic_toml_plain.specs.PlainTables.{with_table}
 use Rattle.basic_toml_plain.proofs.PlainValues.{few_lower}
 use Rattle.basic_toml_plain.proofs.WhatIsLeft.{nothing_left}
 use Rattle.basic_toml_grow.specs.declared.item.Item as items
 use Rattle.basic_toml_grow.specs.declared.item.Item.TheViews.{out-Item}
 use Rattle.basic_toml_grow.specs.Headers.{is_last}
-use Rattle.basic_toml_grow.proofs.HeadersLead.{lead_more, not_last}
-use Rattle.basic_toml_grow.proofs.HeadersGoOn.{LeadsOn, from_deep_value, from_item, from_key, from_latest, from_none}
-use Rattle.basic_toml_grow.proofs.HeadersGoOn.{from_table, from_value, leads_holding, leads_same, new_stays}
+use Rattle.basic_toml_grow.proofs.HeadersGoOn.{Leads, from_deep_value, from_item, from_key, from_latest, from_none}
+use Rattle.basic_toml_grow.proofs.HeadersGoOn.{from_table, from_value, lead, lead_more, new_stays, not_last}
 use Rattle.basic_toml_grow.proofs.RowsKept.{CanStay, back_view, can_stay, stay_at_key, stay_in_first, stay_in_next}
 use Rattle.basic_toml_grow.proofs.headers.+walk.Goals as goal
-use Rattle.basic_toml_grow.proofs.headers.+walk.Goals.{enter_at-else-is_array, enter_element-In_ok-place}
-use Rattle.basic_toml_grow.proofs.headers.+walk.Goals.{enter_at-then-is_array+then-is_empty+then-not-is_new+in_ok-add_table}
-use Rattle.basic_toml_grow.proofs.headers.+walk.Goals.{enter_at-else-is_array-via-then-is_array+then-is_empty+else-not-is_new}
-use Rattle.basic_toml_grow.proofs.headers.+walk.Goals.{enter_at-else-is_array-via-then-is_array+else-is_empty}
-use Rattle.basic_toml_grow.proofs.headers.+walk.Goals.{enter_at-else-is_array-via-else-is_array, enter_last-In_ok-kept}
+use Rattle.basic_toml_grow.proofs.headers.+walk.Goals.{enter_element-In_ok-place, enter_last-In_ok-kept}
 
 -- what stands at a key leads on to the item from which the code goes on
 leads : (t : ℕ) (c : goal.enter_at-After-enter_item t)
-    → LeadsOn c.args.is_array (rows_view c.args.rows.now) (header_texts c.args.rest.now) (c.args.level + 1)
+    → Leads c.args.is_array (rows_view c.args.rows.now) (header_texts c.args.rest.now) (c.args.level + 1)
     c.args.is_new c.unfold.new.self c.if-is_array.there
 leads t c =
     let keys = c.args.rest.now in
     let new = new_stays (is_last c.args.is_array (header_texts keys)) c.unfold.new.self c.args.there.now c.args.is_new
     c.in_ok-unfold.ensures.others c.requires.new in
     elim c.if-is_array.branch [
-      | enter_at-then-is_array+then-is_empty+then-not-is_new+in_ok-add_table w ↦
+      | goal.enter_at-then-is_array+then-is_empty+then-not-is_new+in_ok-add_table w ↦
           let none = nothing_left keys (grind (arith, w.is_empty.ensures, w.if-is_empty.true)) in
           rw (w.if-is_array.true, none, w.if-not-is_new.true)
-          (leads_holding w.there-is (lead_more w.in_ok-add_table.ensures.more))
-      | enter_at-else-is_array w ↦ elim w.else-is_array.branch [
-        | enter_at-else-is_array-via-then-is_array+then-is_empty+else-not-is_new v ↦
-            leads_same w.there-is new (λ not. absurd (false≢true (sym not ∙ v.if-not-is_new.false)))
-        | enter_at-else-is_array-via-then-is_array+else-is_empty v ↦
-            leads_same w.there-is new (λ not. not_last _ keys (grind (arith, v.is_empty.ensures, v.if-is_empty.false)))
-        | enter_at-else-is_array-via-else-is_array v ↦
-            leads_same w.there-is new (λ not. ap (λ b. is_last b (header_texts keys)) v.if-is_array.false)
+          (lead_more w.there-is w.in_ok-add_table.ensures.more)
+      | goal.enter_at-else-is_array w ↦ elim w.else-is_array.branch [
+        | goal.enter_at-else-is_array-via-then-is_array+then-is_empty+else-not-is_new v ↦
+            lead _ w.there-is new (λ not. absurd (cc (not, v.if-not-is_new.false)))
+        | goal.enter_at-else-is_array-via-then-is_array+else-is_empty v ↦
+            lead _ w.there-is new (λ not. not_last _ keys (grind (arith, v.is_empty.ensures, v.if-is_empty.false)))
+        | goal.enter_at-else-is_array-via-else-is_array v ↦
+            lead _ w.there-is new (λ not. ap (λ b. is_last b (header_texts keys)) v.if-is_array.false)
       ]
     ]
 
@@ -65,8 +58,7 @@ stay_last t c = can_stay c.args.rows.now (c.args.level + 1) c.is_empty.ensures c
 pub enter_last-new-requires : goal.enter_last-new-requires
 enter_last-new-requires t c =
     let stay = stay_last t (goal.at.enter_last-new-requires t c).In_ok-kept in
-    few_lower c.in_ok-kept.kept.items (c.args.level + 1)
-    (ap (are_few_simple (c.args.level + 1)) c.in_ok-kept.ensures.tail ∙ stay.few)
+    rw c.in_ok-kept.ensures.tail (few_lower _ _ stay.few)
 
 pub enter_last-returns-then-place : goal.enter_last-returns-then-place
 enter_last-returns-then-place t c =
@@ -92,13 +84,11 @@ stay_element t c = can_stay c.args.rows.now (c.args.level + 2) c.is_empty.ensure
 
 pub enter_element-new-requires : goal.enter_element-new-requires
 enter_element-new-requires t c =
-    few_lower (tables.out-Rows c.args.rows.now).rows.items (c.args.level + 2)
-    (stay_element t (goal.at.enter_element-new-requires t c).In_ok-place).few
+    few_lower _ _ (stay_element t (goal.at.enter_element-new-requires t c).In_ok-place).few
 
 pub enter_element-push-requires : goal.enter_element-push-requires
 enter_element-push-requires t c =
-    few_lower (tables.out-Rows c.args.rows.now).rows.items (c.args.level + 2)
-    (stay_element t (goal.at.enter_element-push-requires t c).In_ok-place).few
+    few_lower _ _ (stay_element t (goal.at.enter_element-push-requires t c).In_ok-place).few
 
 -- the first one
 pub enter_element-returns-then-place : goal.enter_element-returns-then-place

@@ -1,17 +1,12 @@
-use Rattle.std.proofs.Common.{◌≡◌, true, map, refl, ap, sym, ◌∙◌, rules, Vec, Box, Global}
+use Rattle.std.proofs.Common.{◌≡◌, refl, ap, sym, ◌∙◌, rules}
 use denote.Hole.Carrier.{out}
-use Rattle.basic_toml_plain.specs.PlainTables.{SectionTables, have_few_simple}
 use Rattle.basic_toml_grow.specs.declared.item.Item as items
 use Rattle.basic_toml_grow.specs.declared.item.Item.TheViews.{out-Item}
 use Rattle.basic_toml_grow.specs.declared.item.Child.{out-Child}
-use Rattle.basic_toml_grow.specs.declared.item.Table.{Table}
-use Rattle.basic_toml_grow.specs.Item.{item_trie, table_trie}
-use Rattle.basic_toml_grow.specs.Origins.{item_origins, of_table, table_within}
-use Rattle.basic_toml_grow.specs.Simple.{table_of}
 use Rattle.basic_toml_grow.proofs.ItemTries.{child_item_trie, table_child_trie}
-use Rattle.basic_toml_grow.proofs.SectionTables.{section_origins, section_trie}
+use Rattle.basic_toml_grow.proofs.SectionTables.{AreMade, section_origins, section_trie, unfolded_origins}
+use Rattle.basic_toml_grow.proofs.SectionTables.{unfolded_trie}
 use Rattle.basic_toml_grow.proofs.HeadersEntered.{holding_trie}
-use Rattle.basic_toml_grow.proofs.SectionsUnfolded.{unfolded_origins, unfolded_trie}
 use Rattle.basic_toml_grow.proofs.Origins.HeadersPlaceOrigins.{holding_origins}
 use Rattle.basic_toml_grow.proofs.Origins.OriginsSeen.{child_seen}
 use Rattle.basic_toml_grow.proofs.Origins.RowsPlaceOrigins.{child_of_table}
@@ -27,58 +22,36 @@ stood c =
 
 pub returns-in_ok-table-in-Section : goal.returns-in_ok-table-in-Section
 returns-in_ok-table-in-Section c =
-    let at = c.args.self.now.start in
-    let s = c.args.self.now.section in
+    let old = c.args.self.now in
+    let made = c.in_ok-table-in-Section in
     let rows = c.into_rows.result.items in
     let plain = c.into_rows.ensures.plain in
-    let made = c.in_ok-table-in-Section in
     record {
-      trie =
-          table_child_trie at s made.table
-          ∙ ap table_trie made.ensures
-          ∙ sym (section_trie s rows plain)
-          ∙ sym (child_item_trie c.args.self.now ∙ ap item_trie (stood c));
-      origins =
-          child_of_table made.table at s
-          ∙ ap (λ t. of_table at s (table_within t)) made.ensures
-          ∙ sym (section_origins s rows plain at)
-          ∙ sym (child_seen c.args.self.now ∙ ap (λ i. item_origins i at s) (stood c));
+      trie = rw (table_child_trie, child_item_trie old, stood c, made.ensures)
+          (sym (section_trie old.section rows plain));
+      origins = rw (child_of_table, child_seen old, stood c, made.ensures)
+          (sym (section_origins old.section rows plain old.start));
       unfolded = search (rules, items.the_lemmas);
       others = λ e. search (rules, items.the_lemmas, e, c.in-Section.is);
     }
 
 -- the array that stood there
-record TablesMade (b : Box SectionTables Global) (made : Box (Vec Table Global × Table) Global) : Type 0 where
-  earlier : made.value.0.items ≡ map table_of b.value.0
-  latest : made.value.1 ≡ table_of b.value.1
-  simple : have_few_simple b.value ≡ true
-
-tables_made : (c : Joined-self-4) → TablesMade c.in-Sections.tables c.in_ok-tables-in-Sections.tables
+are_made : (c : Joined-self-4) → AreMade c.in-Sections.tables c.in_ok-tables-in-Sections.tables
 unfolding out-Item out
-tables_made c =
-    let made = c.in_ok-tables-in-Sections in
-    let same = c.deref_mut.ensures.value ∙ rw c.in-Sections.is refl in record {
-      earlier = made.ensures.earlier ∙ ap (λ (ts : SectionTables). map table_of ts.0) same;
-      latest = made.ensures.latest ∙ ap (λ (ts : SectionTables). table_of ts.1) same;
-      simple = ap have_few_simple (sym same) ∙ made.ensures.simple;
-    }
+are_made c =
+    let made = c.in_ok-tables-in-Sections.ensures in
+    let same = c.deref_mut.ensures.value ∙ rw c.in-Sections.is refl in
+    record { earlier = rw same at made.earlier; latest = rw same at made.latest; simple = rw same at made.simple }
 
 pub returns-in_ok-tables-in-Sections : goal.returns-in_ok-tables-in-Sections
 returns-in_ok-tables-in-Sections c =
-    let at = c.args.self.now.start in
-    let s = c.args.self.now.section in
-    let b = c.in-Sections.tables in
+    let old = c.args.self.now in
     let made = c.in_ok-tables-in-Sections.tables in
-    let are = tables_made c in
     record {
-      trie =
-          holding_trie c.args.self.now (items.Tables made)
-          ∙ unfolded_trie b made are.earlier are.latest are.simple
-          ∙ sym (child_item_trie c.args.self.now ∙ ap item_trie c.in-Sections.is);
-      origins =
-          holding_origins c.args.self.now (items.Tables made)
-          ∙ unfolded_origins b made are.earlier are.latest are.simple at s
-          ∙ sym (child_seen c.args.self.now ∙ ap (λ i. item_origins i at s) c.in-Sections.is);
+      trie = rw (holding_trie old (items.Tables made), child_item_trie old, c.in-Sections.is)
+          (unfolded_trie (are_made c));
+      origins = rw (holding_origins old (items.Tables made), child_seen old, c.in-Sections.is)
+          (unfolded_origins (are_made c) old.start old.section);
       unfolded = search (rules, items.the_lemmas);
       others = λ e. search (rules, items.the_lemmas, e, c.in-Sections.is);
     }
