@@ -1,5 +1,5 @@
 -- The table of an inline table: it is finished as the tree of its rows, and what keeps a row out makes rows clash.
-use Rattle.std.proofs.Common.{◌≡◌, ◌<◌, ℕ, ◌+◌, true, false, inl, inr, Some, None, Ok, Err, Box, Global}
+use Rattle.std.proofs.Common.{◌≡◌, ◌<◌, ℕ, ◌+◌, true, false, Some, None, Ok, Err, Box, Global}
 use Rattle.std.proofs.Common.{sym, ap, ◌∙◌, arith, rules, subst, codes, Option}
 use Rattle.std.proofs.lemmas.Bool.{true_from_ne_false}
 use Rattle.basic_toml_value.specs.Nesting.{nesting_limit}
@@ -11,7 +11,6 @@ use Rattle.basic_toml_grammar.specs.Trie.{nothing, no_tries, put_rows}
 use Rattle.basic_toml_grammar.proofs.Tries.RowsInATrie.{rows_put, inline_data}
 use Rattle.basic_toml_plain.specs.Tries.{leaf, tree_data}
 use Rattle.basic_toml_grow.specs.declared.clash.Clash.{Clash}
-use Rattle.basic_toml_grow.specs.declared.clash.Clash.TheVariants.{Memory, Deep}
 use Rattle.basic_toml_grow.specs.declared.item.Item as items
 use Rattle.basic_toml_grow.specs.declared.item.Child.{Child}
 use Rattle.basic_toml_grow.specs.declared.item.Table.{Table}
@@ -38,10 +37,7 @@ module _ (rows : Rows) (keyed : rows_keyed rows ≡ true) (start s level : ℕ) 
     (empty : table_trie old ≡ empty_table) where
   kept_out : (clash : Clash) → AreKeptOut rows (level + 1) (table_trie old) clash
       → IsUnfinished (Raw.inline rows) level clash
-  kept_out Memory kept = tt
-  kept_out Deep kept = omega arith
-  kept_out _ (inl clash) = clash
-  kept_out _ (inr none) = refused_clash rows keyed (ap (put_rows rows) (sym empty) ∙ none)
+  kept_out clash kept = grind (arith, refused_clash rows keyed)
 
   -- what they meet first the inline table does
   pub inline_refused : (new : Table) (clash : Clash) → TakesRows rows s (level + 1) old new (Err clash)

@@ -1,7 +1,6 @@
 -- What a row meets tells what stops it, key by key.
-use Rattle.std.proofs.Common.{rules, ◌≡◌, inl, inr, ℕ, ◌+◌, Bool, true, false, ◌||◌, List, [], ◌∷◌, ◌++◌, refl, sym}
+use Rattle.std.proofs.Common.{rules, ◌≡◌, ℕ, ◌+◌, Bool, true, false, ◌||◌, List, [], ◌∷◌, ◌++◌, refl, sym}
 use Rattle.std.proofs.Common.{ap, ◌∙◌, Option, Some, None, Err, length, take, map, Box, Global, arith}
-use Rattle.std.proofs.lemmas.Bool.{cases_Bool}
 use Rattle.std.proofs.lemmas.List.{append-nil, append_assoc, length-append, length-map}
 use Rattle.std.specs.List.{slice_get}
 use Rattle.basic_toml_value.specs.Data.{Data}
@@ -40,14 +39,8 @@ pub told_on : (before : KeyTexts) (keys : List Key) (k : Key) (o p : Outcome Tri
     → ((x : Stop) → o ≡ stops x → p ≡ stops x) → TellsStop before keys k o met → TellsStop before keys k p met
 told_on before keys k o p mets.Memory on told = tt
 told_on before keys k o p mets.Row on told = on (at_row (take 1 (before ++ texts keys)) k) told
-told_on before keys k o p (mets.Header left) on told = record {
-  front = told.front;
-  there = told.there;
-  rest = told.rest;
-  parts = told.parts;
-  count = told.count;
-  stop = on (at_row (before ++ texts told.front) told.there) told.stop;
-}
+told_on before keys k o p (mets.Header left) on told =
+    rw (← (told.stop ∙ sym (on _ told.stop))) told
 
 -- and a key further
 told_further : (before : KeyTexts) (first : Key) (keys : List Key) (k : Key) (o : Outcome Trie) (met : Met)
@@ -77,15 +70,8 @@ trie_stands (trie s v ts) made = λ before k d. record {
   rest = [];
   parts = refl;
   count = refl;
-  stop = go before k d s made ∙ ap (λ b. stops (at_row b k)) (sym (append-nil before));
+  stop = rw (append-nil before) (grind arith);
 }
-  where
-    go : (before : KeyTexts) (k : Key) (d : Data) (s : Option standings.Standing) → by_headers s ≡ true
-        → try_here (valued d) (last_stop before k) (trie s v ts) ≡ stops (at_row before k)
-    go before k d (Some (standings.array n)) made = refl
-    go before k d (Some (standings.table true n e)) made = refl
-    go before k d (Some (standings.table false true e)) made = refl
-    go before k d _ made = absurd (cc)
 
 pub headers_stand : (c : Child) (i : items.Item) → (out-Child c).item ≡ i
     → by_headers (standing (item_trie i)) ≡ true → TellsLast (child_trie c) (mets.Header 1)
@@ -121,8 +107,7 @@ module _ {gives : Child → Type 0} (before : Table) (k : List ℕ) (new : List 
 
   pub last_told : (met : Met) (d : Data) → TellsLast stood met → TellsRow [] k d (table_trie before) met
   last_told met d told = λ front offset.
-      told_on front [] (key_at offset k) (try_here (valued d) (last_stop front (key_at offset k)) stood)
-      (try_put_row front (key_at offset k ∷ []) d (table_trie before)) met
+      told_on front [] (key_at offset k) _ _ met
       (λ x stop. step_stops (λ t. try_here (valued d) (last_stop front (key_at offset k)) t) x stop)
       (told front (key_at offset k) d)
 
@@ -151,10 +136,7 @@ extended_on ks last d t u met is told = λ before first offset.
 
 stopped_here : (before : KeyTexts) (first : Key) (t : Trie) → mark_here dotted t ≡ None
     → try_here dotted (λ m. at_row before first) t ≡ stops (at_row before first)
-stopped_here before first (trie s v ts) none = elim (cases_Bool (standings.fits dotted s)) [
-  | inl fits ↦ let never = rw fits at none in absurd (cc)
-  | inr other ↦ rw other refl
-]
+stopped_here before first (trie s v ts) none = grind arith
 
 pub extended_refused : {now : Child} (parents : List code_keys.Key) (last : List ℕ) (child there : Child)
     → mark_here dotted (child_trie there) ≡ None
@@ -180,9 +162,7 @@ extended_refused parents last child there none = record {
 
 -- a table that dots extend
 abbrev pub dotted_fields : Table → Table-F items.Item Child Table
-dotted_fields t =
-    let o = out-Table t in
-    record { passed = o.passed; named = o.named; dotted = true; section = o.section; entries = o.entries }
+dotted_fields t = record (out-Table t) { dotted = true }
 
 -- dots extend a new table as they do nothing
 pub dotted_before : (is_new : Bool) (t : Trie) → (is_new ≡ true → t ≡ empty_table)

@@ -1,5 +1,5 @@
 -- One row with its value, put into a table of a level: what it comes to, and what keeps it out.
-use Rattle.std.proofs.Common.{◌≡◌, ◌≤◌, ◌<◌, ℕ, ◌+◌, ◌-◌, inl, inr, List, [], ◌∷◌, ◌++◌, length, map, Option, None}
+use Rattle.std.proofs.Common.{◌≡◌, ◌≤◌, ℕ, ◌+◌, ◌-◌, List, [], ◌∷◌, ◌++◌, length, map, Option, None}
 use Rattle.std.proofs.Common.{Ok, Err, Result, sym, ap, ap₂, ◌∙◌, arith, subst, option_map}
 use Rattle.std.specs.Option.{option_or}
 use Rattle.std.proofs.lemmas.List.{length-append, length-map, map-append}
@@ -15,11 +15,9 @@ use Rattle.basic_toml_read.specs.declared.section.Row.{Row, out-Row}
 use Rattle.basic_toml_read.proofs.NextRow.{lined_is}
 use Rattle.basic_toml_read.proofs.RowsHaveKeys.{every_row}
 use Rattle.basic_toml_grow.specs.declared.clash.Clash.{Clash}
-use Rattle.basic_toml_grow.specs.declared.clash.Clash.TheVariants.{Memory, Deep}
 use Rattle.basic_toml_grow.specs.declared.item.Child.{Child}
 use Rattle.basic_toml_grow.specs.declared.item.Table.{Table}
 use Rattle.basic_toml_grow.specs.declared.met.Met.{Met}
-use Rattle.basic_toml_grow.specs.declared.met.Met.TheVariants as mets
 use Rattle.basic_toml_grow.specs.Clash.{Obstacle}
 use Rattle.basic_toml_grow.specs.Item.{table_trie}
 use Rattle.basic_toml_grow.specs.Obstacles.{and_behind, held_obstacle, value_obstacle, rows_obstacle}
@@ -28,7 +26,7 @@ use Rattle.basic_toml_grow.specs.Rows.{AreKeptOut, Enters, IsUnfinished, met_rea
 use Rattle.basic_toml_grow.specs.RowStops.{key_at, SaysMet, SaysHeld}
 use Rattle.basic_toml_grow.specs.Takes.{MakesChild, TakesRow, TakesRows}
 use Rattle.basic_toml_grow.proofs.NoObstacles.{value_free}
-use Rattle.basic_toml_grow.proofs.ObstaclesPassOn.{passed_on, behind_low, behind_high}
+use Rattle.basic_toml_grow.proofs.ObstaclesPassOn.{passed_on, behind_low}
 use Rattle.basic_toml_grow.proofs.RowsLeft.{clash_alone, origins_alone, then_same}
 
 module _ (parents : List keys.Key) (r : Row) (s level : ℕ) (old new : Table) where
@@ -53,15 +51,6 @@ module _ (parents : List keys.Key) (r : Row) (s level : ℕ) (old new : Table) w
       → MakesChild line.value line.start s inner made
   its_value made makes = subst (λ (l : Lined). MakesChild l.value l.start s inner made) (sym (lined_is r)) makes
 
-  -- its last key is too deep
-  pub deep_row : nesting_limit < inner → TakesRows (one_row parents r) s level old new (Err Deep)
-  deep_row high =
-      let last = last_level in record {
-        entered = omega arith;
-        named = behind_high (level + length ks - 1) _ (omega arith);
-        origins = tt;
-      }
-
   behind_level : inner ≤ nesting_limit
       → rows_obstacle level (one_row parents r) (table_trie old)
       ≡ option_or (option_map (held_obstacle ks) (value_obstacle inner line.value))
@@ -74,13 +63,7 @@ module _ (parents : List keys.Key) (r : Row) (s level : ℕ) (old new : Table) w
   -- its value is in the way
   value_kept_out : (clash held : Clash) → reason held ≡ reason clash → IsUnfinished line.value inner clash
       → AreKeptOut (one_row parents r) level (table_trie old) held
-  value_kept_out clash Memory same u = tt
-  value_kept_out Deep Deep same u =
-      let high = rw last_level at u in omega arith
-  value_kept_out _ Deep same u = absurd (cc)
-  value_kept_out Memory _ same u = absurd (cc)
-  value_kept_out Deep _ same u = absurd (cc)
-  value_kept_out _ _ same u = inl (clash_alone ks line.start line.value ∙ u)
+  value_kept_out clash held same u = grind (arith, last_level, clash_alone ks line.start line.value)
 
   pub value_refused : (clash held : Clash) (last : List ℕ) → inner ≤ nesting_limit
       → last ≡ key_text_bytes (out-Row r).key
@@ -137,10 +120,7 @@ module _ (parents : List keys.Key) (r : Row) (s level : ℕ) (old new : Table) w
   met_kept_out : (met : Met) (clash : Clash) → reason clash ≡ met_reason met
       → Enters (put_rows (one_row parents r) (table_trie old)) (table_trie new) (Err met)
       → AreKeptOut (one_row parents r) level (table_trie old) clash
-  met_kept_out met Memory same out = tt
-  met_kept_out mets.Memory _ same out = absurd (cc)
-  met_kept_out _ Deep same out = absurd (cc)
-  met_kept_out _ _ same out = inr out
+  met_kept_out met clash same out = grind arith
 
   pub row_met : (child : Child) (met : Met) (clash : Clash) (last k : List ℕ) → inner ≤ nesting_limit
       → last ≡ key_text_bytes (out-Row r).key → k ≡ key_text_bytes (out-Row r).key

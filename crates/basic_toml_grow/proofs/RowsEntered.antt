@@ -1,6 +1,6 @@
 -- A row put into a table: its first key, and what that key leads to.
 use Rattle.std.proofs.Common.{◌≡◌, ℕ, true, List, [], ◌∷◌, ◌++◌, ap, ◌∙◌, refl, sym, Option, Some, None, Result, Ok}
-use Rattle.std.proofs.Common.{Err, subst, option_map}
+use Rattle.std.proofs.Common.{Err, subst, option_map, arith}
 use Rattle.std.specs.List.{slice_get}
 use Rattle.basic_toml_value.specs.Data.{Data}
 use Rattle.basic_toml_grammar.specs.Sections.{KeyTexts}
@@ -12,7 +12,6 @@ use Rattle.basic_toml_plain.specs.Tries.{by_keys}
 use Rattle.basic_toml_grow.specs.declared.item.Child.{Child}
 use Rattle.basic_toml_grow.specs.declared.item.Table.{Table, out-Table}
 use Rattle.basic_toml_grow.specs.declared.met.Met.{Met}
-use Rattle.basic_toml_grow.specs.declared.met.Met.TheVariants as mets
 use Rattle.basic_toml_grow.specs.Simple.{with_entries}
 use Rattle.basic_toml_grow.specs.Item.{child_trie, table_trie, trie_before}
 use Rattle.basic_toml_value.specs.Growth.{with_value, values_of, FindsOrAdds}
@@ -27,15 +26,12 @@ use Rattle.basic_toml_grow.proofs.Origins.RowsPlaceOrigins.{origins_added}
 
 -- what is met
 pub is_met : (changed : Option Trie) (after : Trie) (met : Met) → changed ≡ None → Enters changed after (Err met)
-is_met changed after mets.Memory none = tt
-is_met changed after _ none = none
+is_met changed after met none = grind arith
 
 -- a change within another
 pub within : (changed whole : Option Trie) (inner outer : Trie) (f : Trie → Trie) (result : Result (Unit {0}) Met)
     → whole ≡ option_map f changed → outer ≡ f inner → Enters changed inner result → Enters whole outer result
-within changed whole inner outer f (Ok _) same is entered = same ∙ ap (option_map f) entered ∙ ap Some (sym is)
-within changed whole inner outer f (Err mets.Memory) same is entered = tt
-within changed whole inner outer f (Err _) same is entered = same ∙ ap (option_map f) entered
+within changed whole inner outer f result same is entered = grind arith
 
 -- a row with a key more before its last one
 pub row_on : (k : List ℕ) (ks : KeyTexts) (last : List ℕ) (d : Data) (t : Trie)

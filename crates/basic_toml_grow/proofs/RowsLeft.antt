@@ -1,6 +1,6 @@
 -- Rows that are left, and what all rows come to: what is put, what is met first, and where what they bring comes from.
-use Rattle.std.proofs.Common.{◌≡◌, ◌≤◌, ◌<◌, ℕ, false, true, ◌||◌, ◌&&◌, inl, inr, List, [], Option, Some, None, Ok}
-use Rattle.std.proofs.Common.{Err, Result, refl, sym, ap, ◌∙◌, arith, length, option_map, ◌+◌, ◌-◌}
+use Rattle.std.proofs.Common.{◌≡◌, ◌≤◌, ◌<◌, ℕ, false, true, ◌||◌, ◌&&◌, inl, inr, List, [], Option, Some, Ok}
+use Rattle.std.proofs.Common.{Err, Result, refl, sym, ap, ◌∙◌, arith, length, ◌+◌, ◌-◌}
 use Rattle.std.specs.Option.{option_or}
 use Rattle.std.proofs.Math.Bool.{or-false}
 use Rattle.std.proofs.Math.Path.{fun_ext}
@@ -10,21 +10,18 @@ use Rattle.basic_toml_read.specs.declared.section.Rows as tables
 use Rattle.basic_toml_read.specs.SectionView.{rows_seen, rows_view}
 use Rattle.basic_toml_value.specs.Nesting.{nesting_limit}
 use Rattle.basic_toml_grammar.specs.Sections.{Key, texts, Raw, Rows, no_rows, row}
-use Rattle.basic_toml_grammar.specs.Steps.{steps_of}
-use Rattle.basic_toml_grammar.specs.RowClash.{rows_clash, value_clashes, any_overlaps}
+use Rattle.basic_toml_grammar.specs.RowClash.{rows_clash, value_clashes}
 use Rattle.basic_toml_grammar.specs.Levels.{rows_level}
 use Rattle.basic_toml_grammar.specs.Entering.{and_then, rows_keyed, keyed_within, has_key, value_keyed}
 use Rattle.basic_toml_grammar.specs.Mentions.{finished}
-use Rattle.basic_toml_grammar.specs.Stops.{Outcome, goes_on, stops}
-use Rattle.basic_toml_grammar.specs.Trie.{Trie, put_row, put_rows}
-use Rattle.basic_toml_grammar.specs.TrieStops.{try_put_row}
+use Rattle.basic_toml_grammar.specs.Trie.{put_row, put_rows}
 use Rattle.basic_toml_grammar.proofs.Tries.RowsThatOverlapAreRefused.{values_clash, put_apart}
 use Rattle.basic_toml_grow.specs.Clash.{Obstacle}
 use Rattle.basic_toml_grow.specs.declared.clash.Clash.{Clash}
 use Rattle.basic_toml_grow.specs.declared.clash.Clash.TheVariants.{Memory, Deep}
 use Rattle.basic_toml_grow.specs.declared.item.Table.{Table}
 use Rattle.basic_toml_grow.specs.Item.{table_trie}
-use Rattle.basic_toml_grow.specs.Obstacles.{above, and_behind, held_obstacle, value_obstacle, rows_obstacle}
+use Rattle.basic_toml_grow.specs.Obstacles.{rows_obstacle}
 use Rattle.basic_toml_grow.specs.Origins.{Origin, Origins, Within, no_origins, or_else, row_origins, rows_origins}
 use Rattle.basic_toml_grow.specs.Origins.{table_origin, table_within, value_origins, with_more}
 use Rattle.basic_toml_grow.specs.Rows.{AreKeptOut, EntersRows}
@@ -44,25 +41,11 @@ pub record AreLeft (s level : ℕ) (whole : Rows) (before : Table) (left : Rows)
   pub fits : rows_level level left ≤ nesting_limit → rows_level level whole ≤ nesting_limit
   pub deep : nesting_limit < rows_level level left → nesting_limit < rows_level level whole
 
--- at first all rows are left
-pub all_left : (s level : ℕ) (rows : Rows) (t : Table) → AreLeft s level rows t rows t
-all_left s level rows t = record {
-  put = refl;
-  met = refl;
-  come = refl;
-  clash = λ c. c;
-  values = refl;
-  fits = λ f. f;
-  deep = λ d. d;
-}
-
 -- the values of rows that do not clash do not clash
 values_apart : (rows : Rows) → rows_clash rows ≡ false → values_clash rows ≡ false
 values_apart no_rows apart = refl
 values_apart (row ks at v rows) apart =
-    let parts = or_parts (any_overlaps (steps_of (texts ks)) rows || value_clashes v) (rows_clash rows) apart in
-    let own = or_parts (any_overlaps (steps_of (texts ks)) rows) (value_clashes v) parts.0 in
-    rw own.1 (values_apart rows parts.1)
+    grind (arith, values_apart rows, or_parts)
 
 -- what the rows that are left come to, all come to
 pub left_taken : {s level : ℕ} {whole left : Rows} {before now : Table} (after : Table) (r : Result (Unit {0}) Clash)
@@ -102,12 +85,10 @@ pub no_parents_seen : (rows : tables.Rows) → (tables.out-Rows rows).parents.it
 no_parents_seen rows none = ap (λ (ks : List keys.Key). rows_seen ks (tables.out-Rows rows).rows.items) none
 
 pub then_same : {A : Type 0} (o : Option A) → and_then o (λ x. Some x) ≡ o
-then_same None = refl
-then_same (Some x) = refl
+then_same o = grind arith
 
 option_assoc : (a b c : Option Origin) → option_or (option_or a b) c ≡ option_or a (option_or b c)
-option_assoc None b c = refl
-option_assoc (Some o) b c = refl
+option_assoc a b c = grind arith
 
 more_more : (w : Within) (f g : Origins) → with_more (with_more w f) g ≡ with_more w (or_else f g)
 more_more w f g = ap (within w.made w.section) (fun_ext (λ p. option_assoc (w.below p) (f p) (g p)))
@@ -129,18 +110,7 @@ module _ (s level : ℕ) (ks : List Key) (at : ℕ) (v : Raw) (rest : Rows) (now
   -- what it meets first, it meets first before others
   one_first : (x : Obstacle) → rows_obstacle level (alone ks at v) (table_trie now) ≡ Some x
       → rows_obstacle level (row ks at v rest) (table_trie now) ≡ Some x
-  one_first x is =
-      let last = level + length ks - 1 in
-      go (above last) (option_map (held_obstacle ks) (value_obstacle last v))
-      (try_put_row [] ks (finished v) (table_trie now)) is
-    where
-      go : (a b : Option Obstacle) (o : Outcome Trie)
-          → option_or a (option_or b (and_behind o (λ t. None))) ≡ Some x
-          → option_or a (option_or b (and_behind o (λ t. rows_obstacle level rest t))) ≡ Some x
-      go (Some y) b o is = is
-      go None (Some y) o is = is
-      go None None (stops y) is = is
-      go None None (goes_on u) is = absurd (cc)
+  one_first x is = grind arith
 
   -- a row that is kept out keeps all rows out
   pub row_refused : (clash : Clash) → TakesRows (alone ks at v) s level now after (Err clash)
@@ -153,12 +123,7 @@ module _ (s level : ℕ) (ks : List Key) (at : ℕ) (v : Raw) (rest : Rows) (now
     where
       go : (clash : Clash) → AreKeptOut (alone ks at v) level (table_trie now) clash
           → AreKeptOut (row ks at v rest) level (table_trie now) clash
-      go Memory kept = tt
-      go Deep kept = omega arith
-      go _ (inl c) = inl (or_left _ _ (or_right (any_overlaps (steps_of (texts ks)) rest) (value_clashes v)
-          (sym (clash_alone ks at v) ∙ c)))
-      go _ (inr none) = inr (ap (λ o. and_then o (λ t. put_rows rest t))
-          (sym (then_same (put_row (texts ks) (finished v) (table_trie now))) ∙ none))
+      go clash kept = grind (arith, or_left, or_right, clash_alone ks at v, then_same)
 
   -- after a row that is in the table the rows after it are left
   pub row_taken : {whole : Rows} {before : Table} → AreLeft s level whole before (row ks at v rest) now

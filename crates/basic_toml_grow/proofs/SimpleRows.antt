@@ -42,7 +42,7 @@ use Rattle.basic_toml_grow.specs.Takes.{MakesChild, TakesRows}
 use Rattle.basic_toml_grow.proofs.ItemTries.{entries_with, with_entries_twice}
 use Rattle.basic_toml_grow.proofs.RowValues.{row_put}
 use Rattle.basic_toml_grow.proofs.RowsEntered.{last_taken}
-use Rattle.basic_toml_grow.proofs.RowsLeft.{AreLeft, all_left, left_taken, none_taken, row_taken}
+use Rattle.basic_toml_grow.proofs.RowsLeft.{AreLeft, left_taken, none_taken, row_taken}
 
 -- a plain value, as the item that it is kept as
 pub record IsKept (i : Item) (v : spec.Raw) : Type 0 where
@@ -196,7 +196,7 @@ first_rows_in : (s level : ℕ) → level ≤ nesting_limit → (t : Table) → 
     → AreLeft s level (rows_seen [] all) t (rows_seen [] more) (with_entries t (entries_of s rows))
 first_rows_in s level low t none all rows more parts simple =
     rw none at (rest_in s level low all more t rows t simple (λ k among. ap (λ ps. has_key ps k) none)
-    (rw parts (all_left s level (rows_seen [] (rows ++ more)) t)))
+    (rw parts (search rules)))
 
 -- and all of them
 pub rows_in : (s level : ℕ) → level ≤ nesting_limit → (t : Table) → (out-Table t).entries ≡ [] → (rows : List Row)

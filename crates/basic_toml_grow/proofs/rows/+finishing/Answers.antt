@@ -5,7 +5,7 @@ use Rattle.std.specs.Prelude.{nat_lt}
 use Rattle.std.proofs.lemmas.Bool.{and_from}
 use Rattle.std.proofs.lemmas.Result.{err_from_is_err_and}
 use Rattle.basic_toml_value.specs.Nesting.{nesting_limit}
-use Rattle.basic_toml_read.specs.SectionView.{key_of, rows_seen, rows_view, elements_view}
+use Rattle.basic_toml_read.specs.SectionView.{key_of, rows_seen, rows_view}
 use Rattle.basic_toml_read.specs.declared.section.Raw as raws
 use Rattle.basic_toml_read.specs.declared.section.Rows as tables
 use Rattle.basic_toml_read.specs.declared.section.Element.{Element}
@@ -19,20 +19,13 @@ use Rattle.basic_toml_plain.proofs.WhatIsLeft.{nothing_left}
 use Rattle.basic_toml_plain.proofs.SimpleKeys.{few_seen}
 use Rattle.basic_toml_grow.specs.Item.{table_trie}
 use Rattle.basic_toml_grow.specs.Simple.{entries_of, with_entries}
-use Rattle.basic_toml_grow.proofs.ElementsLeft.{all_elements_left, element_made, element_stopped}
-use Rattle.basic_toml_grow.proofs.ElementsLeft.{elements_come, elements_done}
+use Rattle.basic_toml_grow.proofs.ElementsLeft.{element_made}
+use Rattle.basic_toml_grow.proofs.ElementsLeft.{elements_done}
 use Rattle.basic_toml_grow.proofs.InlineTables.{inline_made, inline_refused}
-use Rattle.basic_toml_grow.proofs.RowsLeft.{all_left, left_taken, no_parents_seen, none_taken, row_refused, row_taken}
-use Rattle.basic_toml_grow.proofs.RowValues.{deep_row, row_met, row_put, value_refused}
+use Rattle.basic_toml_grow.proofs.RowsLeft.{left_taken, no_parents_seen, none_taken, row_refused, row_taken}
+use Rattle.basic_toml_grow.proofs.RowValues.{row_met, row_put, value_refused}
 use Rattle.basic_toml_grow.proofs.SimpleRows.{all_lower, first_in, plain_made}
 use Rattle.basic_toml_grow.proofs.rows.+finishing.Goals as goal
-
-pub enter_rows-loop-row-init : goal.enter_rows-loop-row-init
-enter_rows-loop-row-init t c = record {
-  within = omega arith;
-  left = all_left c.args.section c.args.level (rows_seen c.args.parents.now c.into_iter-row-iterator.result)
-      c.args.table.now;
-}
 
 pub enter_rows-returns-in_err-enter_value : goal.enter_rows-returns-in_err-enter_value
 enter_rows-returns-in_err-enter_value t c =
@@ -69,10 +62,6 @@ enter_rows-loop-row-preserved t c =
           (rw c.own_parents-own.ensures at c.in_ok-enter_value.ensures));
     }
 
-pub enter_value-returns-then-keys-level : goal.enter_value-returns-then-keys-level
-enter_value-returns-then-keys-level t c =
-    deep_row c.args.keys.now c.args.row c.args.section c.args.level c.args.table.now c.args.table.now (omega arith)
-
 pub enter_value-returns-in-Err : goal.enter_value-returns-in-Err
 enter_value-returns-in-Err t c =
     let held = c.in_ok-value_clash-in-Err in
@@ -93,24 +82,6 @@ enter_value-returns t c =
     c.as_str-in-Ok.ensures.value c.as_str-in-Err-enter_row.ensures.value c.in-Ok.ensures c.in-Err-enter_row.ensures
     clash.ensures.same clash.ensures.named
 
-pub children_of-loop-element-init : goal.children_of-loop-element-init
-children_of-loop-element-init t c =
-    let whole = elements_view c.into_iter-element-iterator.result in
-    let gives = c.into_iter-element-iterator.ensures.into_iter_gives ∙ c.drain-element-items.ensures in record {
-      left = rw c.in_ok-children.ensures.items (all_elements_left c.args.section c.args.level whole);
-      room = omega (
-        arith,
-        ap length gives,
-        c.in_ok-children.ensures.capacity,
-        c.in_ok-children.ensures.len,
-        c.len.ensures,
-        c.args.elements.ok.0,
-      );
-    }
-
-pub children_of-push_reserved-requires : goal.children_of-push_reserved-requires
-children_of-push_reserved-requires t c = omega (arith, ap length c.in-Some.ensures.steps, c.loop-element.invariant.room)
-
 pub children_of-loop-element-preserved : goal.children_of-loop-element-preserved
 children_of-loop-element-preserved t c =
     record {
@@ -125,19 +96,10 @@ children_of-loop-element-preserved t c =
       );
     }
 
-pub children_of-returns : goal.children_of-returns
-children_of-returns t c =
-    let left = rw c.in-None.ensures.steps.0 at c.loop-element.invariant.left in
+pub children_of-returns-clause-finished : goal.children_of-returns-clause-finished
+children_of-returns-clause-finished t c =
     rw (← (c.into_iter-element-iterator.ensures.into_iter_gives ∙ c.drain-element-items.ensures))
-    (record { finished = elements_done left; named = tt; origins = elements_come left })
-
-pub children_of-returns-in_err-child-clause-named :
-    goal.children_of-returns-in_err-child-clause-named
-children_of-returns-in_err-child-clause-named t c =
-    let p = err_from_is_err_and c.from_residual-in_err-child.result c.from_residual-in_err-child.ensures.1 in
-    rw (p.1, p.2, ← (c.into_iter-element-iterator.ensures.into_iter_gives ∙ c.drain-element-items.ensures))
-    (element_stopped c.in-Some.element c.next.new.self (rw c.in-Some.ensures.steps at c.loop-element.invariant.left)
-    c.in_err-child.field-0.0 c.in_err-child.ensures)
+    (elements_done (rw c.in-None.ensures.steps.0 at c.loop-element.invariant.left))
 
 -- an inline table of other rows
 pub inline_child-returns-in_err-take_any_rows : goal.inline_child-returns-in_err-take_any_rows
