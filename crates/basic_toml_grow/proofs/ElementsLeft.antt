@@ -1,7 +1,7 @@
 -- Elements that are left, and what all elements of an array come to: their data, what is met first, and where they come
 -- from.
-use Rattle.std.proofs.Common.{◌≡◌, ◌≤◌, ◌<◌, ℕ, ◌||◌, List, [], ◌∷◌, ◌++◌, map, Ok, refl, sym, ap, ◌∙◌, arith}
-use Rattle.std.proofs.Common.{append_assoc, subst, Option}
+use Rattle.std.proofs.Common.{◌≡◌, ℕ, ◌||◌, List, [], ◌∷◌, ◌++◌, map, Ok, refl, sym, ap, ◌∙◌, arith}
+use Rattle.std.proofs.Common.{append_assoc, max, subst, Option}
 use Rattle.std.specs.Option.{option_or}
 use Rattle.std.proofs.lemmas.List.{map_push}
 use Rattle.basic_toml_value.specs.Data.{Items, no_items, item, items_of}
@@ -40,8 +40,7 @@ pub record ElementsAreLeft (s level : ℕ) (whole : Elements) (made : List Child
   pub come : elements_origins s whole ≡ map child_origins made ++ elements_origins s rest
   pub clash : elements_clash whole ≡ elements_clash rest
   pub met : elements_obstacle level whole ≡ elements_obstacle level rest
-  pub fits : elements_level level rest ≤ nesting_limit → elements_level level whole ≤ nesting_limit
-  pub deep : nesting_limit < elements_level level rest → nesting_limit < elements_level level whole
+  pub high : max nesting_limit (elements_level level whole) ≡ max nesting_limit (elements_level level rest)
 
 -- no elements are left
 pub elements_done : {s level : ℕ} {whole : Elements} {made : List Child}
@@ -49,7 +48,7 @@ pub elements_done : {s level : ℕ} {whole : Elements} {made : List Child}
 elements_done {made = made} left = record {
   values = sym (all_before made) ∙ left.values;
   apart = left.clash;
-  fits = left.fits (omega arith);
+  fits = omega (arith, left.high);
 }
   where
     all_before : (made : List Child) → before_items made no_items ≡ items_of (map tree_data (map child_trie made))
@@ -72,6 +71,5 @@ element_made {s} {level} {whole} {made} e rest left c makes =
       clash = left.clash ∙ ap (λ b. b || elements_clash others) done.apart;
       met = left.met ∙ ap (λ (o : Option Obstacle). option_or o (elements_obstacle level others))
           (value_free level (placed_of e).value (every_element e) done.apart low);
-      fits = λ f. left.fits (omega arith);
-      deep = λ d. left.deep (omega arith);
+      high = omega (arith, left.high);
     }

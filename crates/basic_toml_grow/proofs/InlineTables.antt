@@ -19,7 +19,6 @@ use Rattle.basic_toml_grow.specs.Item.{child_trie, empty_table, item_trie, table
 use Rattle.basic_toml_grow.specs.Obstacles.{rows_obstacle, value_obstacle}
 use Rattle.basic_toml_grow.specs.Origins.{child_origins, dotted_of, entry, item_origins, rows_origins, table_origin}
 use Rattle.basic_toml_grow.specs.Origins.{value_origin, with_more}
-use Rattle.basic_toml_grow.specs.Rows.{AreKeptOut, IsUnfinished}
 use Rattle.basic_toml_grow.specs.Takes.{MakesChild, TakesRows}
 use Rattle.basic_toml_grow.proofs.NoObstacles.{rows_aside}
 use Rattle.basic_toml_grow.proofs.ObstaclesPassOn.{behind_low}
@@ -28,27 +27,21 @@ use Rattle.basic_toml_grow.proofs.Origins.OriginsSeen.{inline_seen, fresh_within
 -- rows that no empty table takes clash
 refused_clash : (rows : Rows) → rows_keyed rows ≡ true → put_rows rows empty_table ≡ None → rows_clash rows ≡ true
 refused_clash rows keyed none = true_from_ne_false _ (λ clear.
-    let put = rows_put rows (Some (standings.table false false false)) keyed clear in
-    let is : put_rows rows empty_table ≡ Some put.0 = put.1 in
-    cc (none, is))
+    let put = rows_put rows (Some (standings.table false false false)) keyed clear in cc (none, put.1))
 
 -- rows put into a table that is empty, at a level of those within the limit
-module _ (rows : Rows) (keyed : rows_keyed rows ≡ true) (start s level : ℕ) (low : level < nesting_limit) (old : Table)
-    (empty : table_trie old ≡ empty_table) where
-  kept_out : (clash : Clash) → AreKeptOut rows (level + 1) (table_trie old) clash
-      → IsUnfinished (Raw.inline rows) level clash
-  kept_out clash kept = grind (arith, refused_clash rows keyed)
-
+module _ {rows : Rows} {start s level : ℕ} {old : Table} (keyed : rows_keyed rows ≡ true)
+    (empty : table_trie old ≡ empty_table) (low : level < nesting_limit) where
   -- what they meet first the inline table does
-  pub inline_refused : (new : Table) (clash : Clash) → TakesRows rows s (level + 1) old new (Err clash)
+  pub inline_refused : {new : Table} {clash : Clash} → TakesRows rows s (level + 1) old new (Err clash)
       → MakesChild (Raw.inline rows) start s level (Err clash)
-  inline_refused new clash takes =
+  inline_refused {new} {clash} takes =
       let same : rows_obstacle (level + 1) rows (table_trie old) ≡ value_obstacle level (Raw.inline rows) =
       ap (rows_obstacle (level + 1) rows) empty
       ∙ rows_aside (level + 1) rows (Some (standings.table false false false)) None None None no_tries keyed
       ∙ sym (behind_low (level + 1) (rows_obstacle (level + 1) rows nothing) (omega arith)) in
       record {
-        finished = kept_out clash takes.entered;
+        finished = grind (arith, refused_clash rows keyed, takes.entered);
         named = subst (λ (o : Option Obstacle). NamesObstacle o clash) same takes.named;
         origins = tt;
         dotted = tt;

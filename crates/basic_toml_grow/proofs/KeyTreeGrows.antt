@@ -1,5 +1,5 @@
 -- A row is followed by a tree, one key after another.
-use Rattle.std.proofs.Common.{◌≡◌, inl, inr, ℕ, List, [], ◌∷◌, ◌++◌, refl, sym, ap, ◌∙◌, map, rules}
+use Rattle.std.proofs.Common.{◌≡◌, inl, inr, ℕ, List, [], ◌∷◌, ◌++◌, refl, sym, ◌∙◌, map, rules}
 use Rattle.std.proofs.Common.{Option, Some, None, option_map, Result, Ok, Err}
 use Rattle.std.specs.List.{slice_get}
 use Rattle.std.specs.Str.{bytes_eq}
@@ -10,7 +10,6 @@ use Rattle.basic_toml_index.proofs.DistinctKeys.{bytes_eq-same}
 use Rattle.basic_toml_value.specs.Pairs.{value_at}
 use Rattle.basic_toml_grammar.specs.Sections.{KeyTexts}
 use Rattle.basic_toml_grow.specs.declared.crossed.KeyTree.{KeyTree, out-KeyTree, roll-KeyTree, the_lemmas}
-use Rattle.basic_toml_grow.specs.declared.crossed.KeyTree.TheOpen.{KeyTree-F}
 use Rattle.basic_toml_grow.specs.declared.crossed.Crossed.{Crossed}
 use Rattle.basic_toml_grow.specs.declared.crossed.Crossed.TheVariants.{Memory, At}
 use Rattle.basic_toml_grow.specs.KeyTree.{ends_below, ends_from, ends_of, no_key_tree, value_on, Follows}
@@ -26,12 +25,9 @@ pub key_tree_ends : (t : KeyTree)
     → ends_of t ≡ ends_from (out-KeyTree t).end (map (λ p. (p.0, ends_of p.1)) (out-KeyTree t).below)
 key_tree_ends t = search (rules, the_lemmas)
 
-rolled : (x : KeyTree-F KeyTree) → out-KeyTree (roll-KeyTree x) ≡ x
-rolled x = search (rules, the_lemmas)
-
 pub rolled_below : (end : Option ℕ) (below : List (List ℕ × KeyTree))
     → (out-KeyTree (roll-KeyTree (record { end = end; below = below }))).below ≡ below
-rolled_below end below = ap (λ x. x.below) (rolled (record { end = end; below = below }))
+rolled_below end below = search (rules, the_lemmas)
 
 -- another tree stands at a position of those below
 abbrev pub filled : KeyTree → List (List ℕ × KeyTree) → ℕ → KeyTree → KeyTree
@@ -39,22 +35,17 @@ filled t new i gone =
     let mid = roll-KeyTree (record { end = (out-KeyTree t).end; below = new }) in
     roll-KeyTree (record { end = (out-KeyTree mid).end; below = with_value (out-KeyTree mid).below i gone })
 
-filled_end : (t : KeyTree) (new : List (List ℕ × KeyTree)) (i : ℕ) (gone : KeyTree)
-    → (out-KeyTree (filled t new i gone)).end ≡ (out-KeyTree t).end
-filled_end t new i gone = search (rules, the_lemmas)
-
-filled_below : (t : KeyTree) (new : List (List ℕ × KeyTree)) (i : ℕ) (gone : KeyTree)
-    → (out-KeyTree (filled t new i gone)).below ≡ with_value new i gone
-filled_below t new i gone = search (rules, the_lemmas)
+filled_ends : (t : KeyTree) (new : List (List ℕ × KeyTree)) (i : ℕ) (gone : KeyTree) → ends_of (filled t new i gone)
+    ≡ ends_from (out-KeyTree t).end (map (λ p. (p.0, ends_of p.1)) (with_value new i gone))
+filled_ends t new i gone =
+    let is : out-KeyTree (filled t new i gone) ≡ record { end = (out-KeyTree t).end; below = with_value new i gone } =
+    search (rules, the_lemmas) in
+    rw (key_tree_ends (filled t new i gone), is) refl
 
 -- nothing ends where no row is followed yet
 pub nowhere : (path : KeyTexts) → ends_of no_key_tree path ≡ None
-nowhere path =
-    rw (key_tree_ends no_key_tree, rolled (record { end = None; below = [] })) (none path)
-  where
-    none : (path : KeyTexts) → ends_from None [] path ≡ None
-    none [] = refl
-    none (k ∷ path) = refl
+nowhere [] = search (rules, the_lemmas)
+nowhere (k ∷ path) = search (rules, the_lemmas)
 
 pub ends_at_key : (t : KeyTree) (k : List ℕ) (path : KeyTexts)
     → ends_of t (k ∷ path) ≡ ends_below (option_map ends_of (value_at (out-KeyTree t).below k)) path
@@ -92,28 +83,22 @@ module _ {gives : KeyTree → Type 0} (t there : KeyTree) (k : List ℕ) (new : 
         let none : ends_of t [] ≡ None = rw (key_tree_ends t) t_end in
         rw (none, fun_ext stood) refl
 
+    now : (l : List ℕ) (path : KeyTexts)
+        → ends_of u (l ∷ path) ≡ ends_below (option_map ends_of (value_at (with_value new at gone) l)) path
+    now l path = rw (filled_ends t new at gone, value_at-map ends_of (with_value new at gone) l) refl
+
     -- where what ends there, what ends here
     ends : (path : KeyTexts) (start : ℕ) → Follows (ends_of there) (ends_of gone) path start → (q : KeyTexts)
         → ends_of u q ≡ and_end (ends_of t) (k ∷ path) start q
-    ends path start deeper [] = rw (key_tree_ends u, filled_end t new at gone, key_tree_ends t, t_end) refl
+    ends path start deeper [] = rw (filled_ends t new at gone, key_tree_ends t, t_end) refl
     ends path start deeper (l ∷ q) = elim (cases_Bool (bytes_eq l k)) [
-      | inl same ↦ rw (
-        (bytes_eq-Decides l k).0 same,
-        ends_at_key u k q,
-        filled_below t new at gone,
-        put_at k e.there (out-KeyTree t).below new at e.entered there stands gone,
-        stood q,
-        bytes_eq-same k,
-      )
+      | inl same ↦
+          let put = put_at k e.there (out-KeyTree t).below new at e.entered there stands gone in
+          rw ((bytes_eq-Decides l k).0 same, now k q, put, stood q, bytes_eq-same k)
           (follows_so (ends_of there) path start (ends_of gone) deeper q)
-      | inr other ↦ rw (
-        ends_at_key u l q,
-        filled_below t new at gone,
-        kept_elsewhere k e.there (out-KeyTree t).below new at e.entered there stands gone l other,
-        ends_at_key t l q,
-        other,
-      )
-          (sym (or_nothing _))
+      | inr other ↦
+          let kept = kept_elsewhere k e.there (out-KeyTree t).below new at e.entered there stands gone l other in
+          rw (now l q, kept, ends_at_key t l q, other) (sym (or_nothing _))
     ]
 
     -- what goes on below goes on here, and so does what goes wrong

@@ -37,10 +37,7 @@ use Rattle.basic_toml_grow.proofs.TablesOpened.{table_item_trie}
 -- what stops one thing stops another
 pub told_on : (before : KeyTexts) (keys : List Key) (k : Key) (o p : Outcome Trie) (met : Met)
     → ((x : Stop) → o ≡ stops x → p ≡ stops x) → TellsStop before keys k o met → TellsStop before keys k p met
-told_on before keys k o p mets.Memory on told = tt
-told_on before keys k o p mets.Row on told = on (at_row (take 1 (before ++ texts keys)) k) told
-told_on before keys k o p (mets.Header left) on told =
-    rw (← (told.stop ∙ sym (on _ told.stop))) told
+told_on before keys k o p met on told = grind (arith, on)
 
 -- and a key further
 told_further : (before : KeyTexts) (first : Key) (keys : List Key) (k : Key) (o : Outcome Trie) (met : Met)
@@ -107,7 +104,7 @@ module _ {gives : Child → Type 0} (before : Table) (k : List ℕ) (new : List 
 
   pub last_told : (met : Met) (d : Data) → TellsLast stood met → TellsRow [] k d (table_trie before) met
   last_told met d told = λ front offset.
-      told_on front [] (key_at offset k) _ _ met
+      told_on front [] _ _ _ met
       (λ x stop. step_stops (λ t. try_here (valued d) (last_stop front (key_at offset k)) t) x stop)
       (told front (key_at offset k) d)
 
@@ -116,8 +113,7 @@ module _ {gives : Child → Type 0} (before : Table) (k : List ℕ) (new : List 
   row_told met at ks last d told = λ front offset.
       let first = key_at at k in
       let on : Trie → Outcome Trie = λ t. on_by_dots front first (ks ++ key_at offset last ∷ []) d t in
-      told_on front (first ∷ ks) (key_at offset last) (on stood)
-      (try_put_row front (first ∷ (ks ++ key_at offset last ∷ [])) d (table_trie before)) met
+      told_on front (first ∷ ks) _ _ _ met
       (λ x stop. try_row_on front first ks (key_at offset last) d (table_trie before) ∙ step_stops on x stop)
       (told front first offset)
 
@@ -128,11 +124,9 @@ extended_on ks last d t u met is told = λ before first offset.
     let all = ks ++ key_at offset last ∷ [] in
     let on : try_here dotted (λ m. at_row before first) t ≡ goes_on u =
     goes (try_here dotted (λ m. at_row before first) t) u (left_here dotted (λ m. at_row before first) t ∙ is) in
-    told_on before (first ∷ ks) (key_at offset last) (try_put_row (before ++ first.text ∷ []) all d u)
-    (on_by_dots before first all d t) met
+    told_on before (first ∷ ks) _ _ _ met
     (λ x stop. ap (λ o. and_on o (λ t. try_put_row (before ++ first.text ∷ []) all d t)) on ∙ stop)
-    (told_further before first ks (key_at offset last) (try_put_row (before ++ first.text ∷ []) all d u) met
-    (told (before ++ first.text ∷ []) offset))
+    (told_further before first ks (key_at offset last) _ met (told (before ++ first.text ∷ []) offset))
 
 stopped_here : (before : KeyTexts) (first : Key) (t : Trie) → mark_here dotted t ≡ None
     → try_here dotted (λ m. at_row before first) t ≡ stops (at_row before first)
@@ -180,17 +174,9 @@ extended_before false ks last d t met fresh told = told
 pub dotted_table : (c : Child) (t : Box Table Global) (e : Table) → (out-Child c).item ≡ items.Table t → e ≡ t.value
     → (out-Table e).named ≡ false → mark_here dotted (child_trie c) ≡ Some (table_trie (roll-Table (dotted_fields e)))
 dotted_table c t e is same named =
-    rw (
-      child_item_trie c,
-      is,
-      table_item_trie t,
-      ← same,
-      table_entries_trie e,
-      table_entries_trie (roll-Table (dotted_fields e)),
-      out-roll-Table (dotted_fields e),
-      named,
-    )
-    refl
+    let u = dotted_fields e in
+    rw (child_item_trie c, is, table_item_trie t, ← same, table_entries_trie e)
+    (rw (table_entries_trie (roll-Table u), out-roll-Table u, named) refl)
 
 pub named_refuses : (c : Child) (t : Box Table Global) → (out-Child c).item ≡ items.Table t
     → (out-Table t.value).named ≡ true → mark_here dotted (child_trie c) ≡ None

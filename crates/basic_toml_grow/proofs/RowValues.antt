@@ -22,7 +22,7 @@ use Rattle.basic_toml_grow.specs.Clash.{Obstacle}
 use Rattle.basic_toml_grow.specs.Item.{table_trie}
 use Rattle.basic_toml_grow.specs.Obstacles.{and_behind, held_obstacle, value_obstacle, rows_obstacle}
 use Rattle.basic_toml_grow.specs.Origins.{child_origins, dotted_of, row_origins, table_within, with_more}
-use Rattle.basic_toml_grow.specs.Rows.{AreKeptOut, Enters, IsUnfinished, met_reason, one_row, reason}
+use Rattle.basic_toml_grow.specs.Rows.{met_reason, one_row, reason}
 use Rattle.basic_toml_grow.specs.RowStops.{key_at, SaysMet, SaysHeld}
 use Rattle.basic_toml_grow.specs.Takes.{MakesChild, TakesRow, TakesRows}
 use Rattle.basic_toml_grow.proofs.NoObstacles.{value_free}
@@ -61,21 +61,17 @@ module _ (parents : List keys.Key) (r : Row) (s level : ℕ) (old new : Table) w
       (and_behind (try_put_row [] ks (finished line.value) (table_trie old)) (λ _. None))) (sym last_level)
 
   -- its value is in the way
-  value_kept_out : (clash held : Clash) → reason held ≡ reason clash → IsUnfinished line.value inner clash
-      → AreKeptOut (one_row parents r) level (table_trie old) held
-  value_kept_out clash held same u = grind (arith, last_level, clash_alone ks line.start line.value)
-
-  pub value_refused : (clash held : Clash) (last : List ℕ) → inner ≤ nesting_limit
-      → last ≡ key_text_bytes (out-Row r).key
-      → MakesChild (raw_of (out-Row r).value) (out-Row r).start s inner (Err clash) → reason held ≡ reason clash
+  pub value_refused : {clash held : Clash} {last : List ℕ}
+      → MakesChild (raw_of (out-Row r).value) (out-Row r).start s inner (Err clash) → inner ≤ nesting_limit
+      → last ≡ key_text_bytes (out-Row r).key → reason held ≡ reason clash
       → SaysHeld (map key_of parents ++ key_at (out-Row r).offset last ∷ []) clash held
       → TakesRows (one_row parents r) s level old new (Err held)
-  value_refused clash held last low is_last makes same says =
+  value_refused {clash} {held} {last} makes low is_last same says =
       let its = its_value (Err clash) makes in
       let o = and_behind (try_put_row [] ks (finished line.value) (table_trie old)) (λ _. None) in
       let says_so = rw (key_is last is_last) at says in
       record {
-        entered = value_kept_out clash held same its.finished;
+        entered = grind (arith, last_level, clash_alone ks line.start line.value, same, its.finished);
         named = passed_on held (option_map (held_obstacle ks) (value_obstacle inner line.value)) _
             (λ x is. behind_level low ∙ ap (λ (a : Option Obstacle). option_or a o) is)
             (says_so (value_obstacle inner line.value) its.named);
@@ -97,10 +93,10 @@ module _ (parents : List keys.Key) (r : Row) (s level : ℕ) (old new : Table) w
       then_same (put_row (texts ks) (finished line.value) (table_trie old))
       ∙ ap (λ ts. put_row ts (finished line.value) (table_trie old)) same_texts
 
-  pub row_put : (child : Child) (last : List ℕ) → inner ≤ nesting_limit → last ≡ key_text_bytes (out-Row r).key
-      → MakesChild (raw_of (out-Row r).value) (out-Row r).start s inner (Ok child)
-      → TakesRow parents last child old new (Ok tt) → TakesRows (one_row parents r) s level old new (Ok tt)
-  row_put child last low is_last makes takes =
+  pub row_put : {child : Child} {last : List ℕ} → TakesRow parents last child old new (Ok tt)
+      → MakesChild (raw_of (out-Row r).value) (out-Row r).start s inner (Ok child) → inner ≤ nesting_limit
+      → last ≡ key_text_bytes (out-Row r).key → TakesRows (one_row parents r) s level old new (Ok tt)
+  row_put {child} {last} takes makes low is_last =
       let its = its_value (Ok child) makes in
       let put = its_put last child (Ok tt) is_last takes in
       let fits = rw last_level at its.finished.fits in
@@ -117,18 +113,13 @@ module _ (parents : List keys.Key) (r : Row) (s level : ℕ) (old new : Table) w
             ∙ ap₂ (row_origins (texts ks)) its.dotted its.origins ∙ sym (origins_alone ks line.start line.value s));
       }
 
-  met_kept_out : (met : Met) (clash : Clash) → reason clash ≡ met_reason met
-      → Enters (put_rows (one_row parents r) (table_trie old)) (table_trie new) (Err met)
-      → AreKeptOut (one_row parents r) level (table_trie old) clash
-  met_kept_out met clash same out = grind arith
-
-  pub row_met : (child : Child) (met : Met) (clash : Clash) (last k : List ℕ) → inner ≤ nesting_limit
-      → last ≡ key_text_bytes (out-Row r).key → k ≡ key_text_bytes (out-Row r).key
-      → MakesChild (raw_of (out-Row r).value) (out-Row r).start s inner (Ok child)
-      → TakesRow parents last child old new (Err met) → reason clash ≡ met_reason met
+  pub row_met : {child : Child} {met : Met} {clash : Clash} {last k : List ℕ}
+      → TakesRow parents last child old new (Err met)
+      → MakesChild (raw_of (out-Row r).value) (out-Row r).start s inner (Ok child) → inner ≤ nesting_limit
+      → last ≡ key_text_bytes (out-Row r).key → k ≡ key_text_bytes (out-Row r).key → reason clash ≡ met_reason met
       → SaysMet (map key_of parents) (key_at (out-Row r).offset k) met clash
       → TakesRows (one_row parents r) s level old new (Err clash)
-  row_met child met clash last k low is_last is_k makes takes same says =
+  row_met {child} {met} {clash} {last} {k} takes makes low is_last is_k same says =
       let its = its_value (Ok child) makes in
       let f = its.finished in
       let put = its_put last child (Err met) is_last takes in
@@ -136,8 +127,7 @@ module _ (parents : List keys.Key) (r : Row) (s level : ℕ) (old new : Table) w
       let free = value_free inner line.value (every_row r) f.apart f.fits in
       let says_so = rw (key_is k is_k) at says in
       record {
-        entered = met_kept_out met clash same (subst (λ p. Enters p (table_trie new) (Err met)) (sym put_one)
-            (put.entered (finished line.value) f.value));
+        entered = grind (arith, put_one, same, put.entered (finished line.value) f.value);
         named = passed_on clash (and_behind o (λ _. None)) _
             (λ x is. behind_level low
             ∙ ap (λ (a : Option Obstacle). option_or (option_map (held_obstacle ks) a) (and_behind o (λ _. None))) free

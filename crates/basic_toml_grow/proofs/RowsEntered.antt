@@ -1,6 +1,6 @@
 -- A row put into a table: its first key, and what that key leads to.
 use Rattle.std.proofs.Common.{◌≡◌, ℕ, true, List, [], ◌∷◌, ◌++◌, ap, ◌∙◌, refl, sym, Option, Some, None, Result, Ok}
-use Rattle.std.proofs.Common.{Err, subst, option_map, arith}
+use Rattle.std.proofs.Common.{Err, option_map, arith}
 use Rattle.std.specs.List.{slice_get}
 use Rattle.basic_toml_value.specs.Data.{Data}
 use Rattle.basic_toml_grammar.specs.Sections.{KeyTexts}
@@ -104,14 +104,4 @@ stands_in t new position stands =
 -- a key that is entered by another name
 pub same_key_entered : {gives : Child → Type 0} {k l : List ℕ} {old new : List (List ℕ × Child)} {p : Place} → k ≡ l
     → FindsOrAdds gives k old new p → FindsOrAdds gives l old new p
-same_key_entered {gives = gives} {old = old} {new = new} {p = p} same entered =
-    subst (λ (k : List ℕ). FindsOrAdds gives k old new p) same entered
-
--- what was made for a new key
-pub made_there : {gives : Child → Type 0} {k : List ℕ} {old new : List (List ℕ × Child)} {p : Place} (there : Child)
-    (holds : Child → Type 0) → FindsOrAdds gives k old new p → slice_get (values_of new) p.position ≡ Some there
-    → ((c : Child) → gives c → holds c) → p.is_new ≡ true → holds there
-made_there there holds e stands given is_new =
-    let both : Some e.there ≡ Some there = sym e.stands ∙ stands in
-    let same : e.there ≡ there = cc in
-    subst holds same (given e.there (e.made is_new))
+same_key_entered same entered = rw same at entered

@@ -41,11 +41,8 @@ pub can_stay : {slice : List Row} {is_empty are_few : Bool} (rows : tables.Rows)
     → CanStay rows level
 can_stay rows level is empty slice_is few are =
     let parents = (tables.out-Rows rows).parents in
-    let none = nothing_left parents.items (grind (arith, is, empty, parents.ok.0)) in record {
-      none = none;
-      seen = no_parents_seen rows none;
-      few = ap (are_few_simple level) (sym slice_is) ∙ sym few ∙ are;
-    }
+    let none = nothing_left parents.items (grind (arith, is, empty, parents.ok.0)) in
+    record { none = none; seen = no_parents_seen rows none; few = grind (arith, slice_is, few, are) }
 
 -- rows that are taken out and put back
 abbrev pub back : tables.Rows → Vec Row Global → Vec Row Global → tables.Rows

@@ -1,6 +1,6 @@
 -- Rows that are left, and what all rows come to: what is put, what is met first, and where what they bring comes from.
-use Rattle.std.proofs.Common.{◌≡◌, ◌≤◌, ◌<◌, ℕ, false, true, ◌||◌, ◌&&◌, inl, inr, List, [], Option, Some, Ok}
-use Rattle.std.proofs.Common.{Err, Result, refl, sym, ap, ◌∙◌, arith, length, ◌+◌, ◌-◌}
+use Rattle.std.proofs.Common.{◌≡◌, ℕ, false, true, ◌||◌, ◌&&◌, List, [], Option, Some, Ok}
+use Rattle.std.proofs.Common.{Err, Result, refl, sym, ap, ◌∙◌, arith, length, max, ◌+◌, ◌-◌}
 use Rattle.std.specs.Option.{option_or}
 use Rattle.std.proofs.Math.Bool.{or-false}
 use Rattle.std.proofs.Math.Path.{fun_ext}
@@ -16,15 +16,13 @@ use Rattle.basic_toml_grammar.specs.Entering.{and_then, rows_keyed, keyed_within
 use Rattle.basic_toml_grammar.specs.Mentions.{finished}
 use Rattle.basic_toml_grammar.specs.Trie.{put_row, put_rows}
 use Rattle.basic_toml_grammar.proofs.Tries.RowsThatOverlapAreRefused.{values_clash, put_apart}
-use Rattle.basic_toml_grow.specs.Clash.{Obstacle}
 use Rattle.basic_toml_grow.specs.declared.clash.Clash.{Clash}
-use Rattle.basic_toml_grow.specs.declared.clash.Clash.TheVariants.{Memory, Deep}
 use Rattle.basic_toml_grow.specs.declared.item.Table.{Table}
 use Rattle.basic_toml_grow.specs.Item.{table_trie}
 use Rattle.basic_toml_grow.specs.Obstacles.{rows_obstacle}
 use Rattle.basic_toml_grow.specs.Origins.{Origin, Origins, Within, no_origins, or_else, row_origins, rows_origins}
 use Rattle.basic_toml_grow.specs.Origins.{table_origin, table_within, value_origins, with_more}
-use Rattle.basic_toml_grow.specs.Rows.{AreKeptOut, EntersRows}
+use Rattle.basic_toml_grow.specs.Rows.{EntersRows}
 use Rattle.basic_toml_grow.specs.Takes.{TakesRows}
 use Rattle.basic_toml_grow.proofs.NoObstacles.{row_behind, value_free}
 use Rattle.basic_toml_grow.proofs.ObstaclesPassOn.{passed_on}
@@ -38,8 +36,7 @@ pub record AreLeft (s level : ℕ) (whole : Rows) (before : Table) (left : Rows)
   pub come : with_more (table_within before) (rows_origins s whole) ≡ with_more (table_within now) (rows_origins s left)
   pub clash : rows_clash left ≡ true → rows_clash whole ≡ true
   pub values : values_clash whole ≡ values_clash left
-  pub fits : rows_level level left ≤ nesting_limit → rows_level level whole ≤ nesting_limit
-  pub deep : nesting_limit < rows_level level left → nesting_limit < rows_level level whole
+  pub high : max nesting_limit (rows_level level whole) ≡ max nesting_limit (rows_level level left)
 
 -- the values of rows that do not clash do not clash
 values_apart : (rows : Rows) → rows_clash rows ≡ false → values_clash rows ≡ false
@@ -48,10 +45,10 @@ values_apart (row ks at v rows) apart =
     grind (arith, values_apart rows, or_parts)
 
 -- what the rows that are left come to, all come to
-pub left_taken : {s level : ℕ} {whole left : Rows} {before now : Table} (after : Table) (r : Result (Unit {0}) Clash)
+pub left_taken : {s level : ℕ} {whole left : Rows} {before now after : Table} {r : Result (Unit {0}) Clash}
     → AreLeft s level whole before left now → rows_keyed whole ≡ true → TakesRows left s level now after r
     → TakesRows whole s level before after r
-left_taken {s} {level} {whole} {left} {before} {now} after r are keyed takes =
+left_taken {s} {level} {whole} {left} {before} {now} {after} {r} are keyed takes =
     record { entered = go r takes.entered; named = rw are.met takes.named; origins = rw are.come takes.origins }
   where
     go : (r : Result (Unit {0}) Clash) → EntersRows left level (table_trie now) (table_trie after) r
@@ -61,19 +58,16 @@ left_taken {s} {level} {whole} {left} {before} {now} after r are keyed takes =
           put = put;
           apart = put_apart whole (table_trie before) (table_trie after) keyed
               (are.values ∙ values_apart left entered.apart) put;
-          fits = are.fits entered.fits;
+          fits = omega (arith, are.high, entered.fits);
         }
-    go (Err Memory) kept = tt
-    go (Err Deep) kept = are.deep kept
-    go (Err _) (inl c) = inl (are.clash c)
-    go (Err _) (inr none) = inr (are.put ∙ none)
+    go (Err clash) kept = grind (arith, are.put, are.high, are.clash)
 
 -- where no row is, nothing is put
 else_none : (f : Origins) → or_else f no_origins ≡ f
 else_none f = fun_ext (λ p. or_none (f p))
 
-pub none_taken : (s level : ℕ) (t : Table) → TakesRows no_rows s level t t (Ok tt)
-none_taken s level t = record {
+pub none_taken : {s level : ℕ} {t : Table} → TakesRows no_rows s level t t (Ok tt)
+none_taken {t = t} = record {
   entered = record { put = refl; apart = refl; fits = omega arith };
   named = tt;
   origins = let w = table_within t in sym (ap (within w.made w.section) (else_none w.below));
@@ -106,24 +100,15 @@ module _ (ks : List Key) (at : ℕ) (v : Raw) where
   origins_alone s = else_none (row_origins (texts ks) (table_origin false at s) (value_origins s at v))
 
 -- and with others after it
-module _ (s level : ℕ) (ks : List Key) (at : ℕ) (v : Raw) (rest : Rows) (now after : Table) where
-  -- what it meets first, it meets first before others
-  one_first : (x : Obstacle) → rows_obstacle level (alone ks at v) (table_trie now) ≡ Some x
-      → rows_obstacle level (row ks at v rest) (table_trie now) ≡ Some x
-  one_first x is = grind arith
-
+module _ {s level : ℕ} {ks : List Key} {at : ℕ} {v : Raw} {rest : Rows} {now after : Table} where
   -- a row that is kept out keeps all rows out
-  pub row_refused : (clash : Clash) → TakesRows (alone ks at v) s level now after (Err clash)
+  pub row_refused : {clash : Clash} → TakesRows (alone ks at v) s level now after (Err clash)
       → TakesRows (row ks at v rest) s level now after (Err clash)
-  row_refused clash one = record {
-    entered = go clash one.entered;
-    named = passed_on clash (rows_obstacle level (alone ks at v) (table_trie now)) _ one_first one.named;
+  row_refused {clash} one = record {
+    entered = grind (arith, or_left, or_right, clash_alone ks at v, then_same, one.entered);
+    named = passed_on clash (rows_obstacle level (alone ks at v) (table_trie now)) _ (λ x is. grind arith) one.named;
     origins = tt;
   }
-    where
-      go : (clash : Clash) → AreKeptOut (alone ks at v) level (table_trie now) clash
-          → AreKeptOut (row ks at v rest) level (table_trie now) clash
-      go clash kept = grind (arith, or_left, or_right, clash_alone ks at v, then_same)
 
   -- after a row that is in the table the rows after it are left
   pub row_taken : {whole : Rows} {before : Table} → AreLeft s level whole before (row ks at v rest) now
@@ -145,6 +130,5 @@ module _ (s level : ℕ) (ks : List Key) (at : ℕ) (v : Raw) (rest : Rows) (now
             (sym (one.origins ∙ ap (with_more (table_within now)) (origins_alone ks at v s)));
         clash = λ c. left.clash (or_right _ _ c);
         values = left.values ∙ ap (λ b. b || values_clash rest) free;
-        fits = λ f. left.fits (omega (arith, fits, f));
-        deep = λ d. left.deep (omega (arith, d));
+        high = omega (arith, left.high, fits);
       }

@@ -9,7 +9,7 @@ use Rattle.basic_toml_value.specs.Growth.{with_value, values_of}
 use Rattle.basic_toml_grow.specs.Item.{child_trie, table_trie, empty_table, trie_before}
 use Rattle.basic_toml_grow.specs.Simple.{with_entries}
 use Rattle.basic_toml_grow.proofs.ItemTries.{table_child_trie, with_entries_put}
-use Rattle.basic_toml_grow.proofs.RowsEntered.{within, made_there, same_key_entered}
+use Rattle.basic_toml_grow.proofs.RowsEntered.{same_key_entered, within}
 use Rattle.basic_toml_grow.proofs.RowsEntered.{changed_table, row_on, stands_in, step_made, table_after}
 use Rattle.basic_toml_grow.specs.Rows.{Enters}
 use Rattle.basic_toml_read.specs.KeyText.{key_text_bytes}
@@ -34,9 +34,10 @@ fresh : (t : ℕ) (c : goal.enter_dotted-After-table-1 t) → c.in_ok-place.plac
     → (child_trie c.value_mut-there.result.now ≡ empty_table)
     × (child_origins c.value_mut-there.result.now ≡ entry (dotted_of c.args.child) no_origins)
 fresh t c new =
-    made_there c.value_mut-there.result.now
-    (λ d. (child_trie d ≡ empty_table) × (child_origins d ≡ entry (dotted_of c.args.child) no_origins))
-    c.in_ok-place.ensures.entered (stands_there t c) (λ d made. (search rules, search rules)) new
+    let e = c.in_ok-place.ensures.entered in
+    let made = e.made new in
+    let same : e.there ≡ c.value_mut-there.result.now = cc (e.stands, stands_there t c) in
+    rw (← same) (search rules, search rules)
 
 pub enter_dotted-returns : goal.enter_dotted-returns
 enter_dotted-returns t c =
@@ -64,12 +65,9 @@ enter_dotted-returns t c =
           (dotted_before p.is_new (child_trie there) (λ new. (fresh t c new).0)) in
           let on = row_on key rest last d (table_trie table) in
           let put = changed_table table key new p entered there stands in
-          within (g (child_trie there))
-          (put_row (header_texts (row ∷ c.args.rest.now) ++ last ∷ []) d (table_trie table)) (child_trie now)
-          (table_trie (with_entries mid after)) put c.extend.result
-          (on ∙ step_made table key new p entered there stands g ∙ ap (option_map put) alike)
-          (ap table_trie same ∙ table_after table key new p entered there stands now)
-          (c.extend.ensures.entered d is_leaf);
+          let made = on ∙ step_made table key new p entered there stands g ∙ ap (option_map put) alike in
+          let is = ap table_trie same ∙ table_after table key new p entered there stands now in
+          within _ _ _ _ put _ made is (c.extend.ensures.entered d is_leaf);
       named = IfErr-weaker c.extend.result _ _
           (λ met told. λ d is_leaf.
           row_told table key new p entered there stands met row.offset (map key_of c.args.rest.now) last d
