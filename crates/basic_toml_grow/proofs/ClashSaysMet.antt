@@ -1,6 +1,6 @@
 -- The clash that is answered for a row says what was met, or what stops its value.
 use Rattle.std.proofs.Common.{◌≡◌, ℕ, zero, suc, ◌+◌, ◌-◌, List, [], ◌∷◌, ◌++◌, refl, sym, ap, ap₂, ◌∙◌}
-use Rattle.std.proofs.Common.{Some, None, arith, Result, Ok, Err, IfOk, length, take, map}
+use Rattle.std.proofs.Common.{Some, None, arith, length, take, map}
 use Rattle.std.specs.List.{slice_get}
 use Rattle.std.proofs.Math.Seq.{take-append_seam}
 use Rattle.std.proofs.lemmas.List.{length-append, length-map, take-append-le, take-map}
@@ -22,12 +22,6 @@ names : (clash : Clash) (x : Stop) (o : Outcome Trie) → IsStop clash x → o �
 names clashes.Memory x o is told = absurd is
 names clashes.Deep x o is told = absurd is
 names _ x o is told = (x, (is, ap (λ (o : Outcome Trie). and_behind o (λ _. None)) told))
-
--- what holds of each clash that is a stop
-pub if_stop : {E : Type 0} (result : Result Clash E) (x : Stop) (P : Clash → Type 0)
-    → ((clash : Clash) → IsStop clash x → P clash) → IfOk result (λ clash. IsStop clash x) → IfOk result P
-if_stop (Ok clash) x P f is = f clash is
-if_stop (Err error) x P f is = tt
 
 -- where a list goes on
 stands_next : {A : Type 0} (xs : List A) (x : A) (ys : List A) → slice_get (xs ++ x ∷ ys) (length xs) ≡ Some x

@@ -51,21 +51,18 @@ mutual
   tells_among : (es : Elements) → Tells (crossed_among es) (dotted_faults_among es)
   tells_among no_elements = refl
   tells_among (element at v es) =
-      tells_append (crossed_of v) (crossed_among es) (dotted_faults_in v) (dotted_faults_among es) (tells_of v)
-      (tells_among es)
+      tells_append (crossed_of v) (crossed_among es) _ _ (tells_of v) (tells_among es)
 
   tells_within : (rows : Rows) → Tells (crossed_within rows) (value_faults rows)
   tells_within no_rows = refl
   tells_within (row keys at v rows) =
-      tells_append (crossed_of v) (crossed_within rows) (dotted_faults_in v) (value_faults rows) (tells_of v)
-      (tells_within rows)
+      tells_append (crossed_of v) (crossed_within rows) _ _ (tells_of v) (tells_within rows)
 
 pub tells_sections : (sections : List Section)
     → Tells (first_crossed sections) (flat_map (λ s. dotted_faults s.rows) sections)
 tells_sections [] = refl
 tells_sections (s ∷ sections) =
-    tells_append (crossed_in s.rows) (first_crossed sections) (dotted_faults s.rows)
-    (flat_map (λ s. dotted_faults s.rows) sections)
+    tells_append (crossed_in s.rows) (first_crossed sections) _ _
     (tells_rows (crossed_between s.rows) (crossed_within s.rows) s.rows (tells_between s.rows) (tells_within s.rows))
     (tells_sections sections)
 

@@ -1,6 +1,6 @@
 -- A row is followed by a tree, one key after another.
 use Rattle.std.proofs.Common.{◌≡◌, inl, inr, ℕ, List, [], ◌∷◌, ◌++◌, refl, sym, ◌∙◌, map, rules}
-use Rattle.std.proofs.Common.{Option, Some, None, option_map, Result, Ok, Err}
+use Rattle.std.proofs.Common.{Option, Some, None, option_map, Result, Ok, Err, arith}
 use Rattle.std.specs.List.{slice_get}
 use Rattle.std.specs.Str.{bytes_eq}
 use Rattle.std.proofs.Math.Path.{fun_ext}
@@ -15,7 +15,7 @@ use Rattle.basic_toml_grow.specs.declared.crossed.Crossed.TheVariants.{Memory, A
 use Rattle.basic_toml_grow.specs.KeyTree.{ends_below, ends_from, ends_of, no_key_tree, value_on, Follows}
 use Rattle.basic_toml_grow.specs.KeyTree.{FollowsTo}
 use Rattle.basic_toml_grow.specs.Crossed.{and_end}
-use Rattle.basic_toml_grow.proofs.ValuesOnTheWay.{follows_so, or_nothing, row_ends}
+use Rattle.basic_toml_grow.proofs.ValuesOnTheWay.{follows_so, row_ends}
 use Rattle.basic_toml_value.specs.Growth.{with_value, values_of, FindsOrAdds}
 use Rattle.basic_toml_value.specs.declared.pairs.growth.Place.{Place}
 use Rattle.basic_toml_value.proofs.KeysChanged.{value_at-map, made_first, stood_or_fresh, put_at, kept_elsewhere}
@@ -98,7 +98,7 @@ module _ {gives : KeyTree → Type 0} (t there : KeyTree) (k : List ℕ) (new : 
           (follows_so (ends_of there) path start (ends_of gone) deeper q)
       | inr other ↦
           let kept = kept_elsewhere k e.there (out-KeyTree t).below new at e.entered there stands gone l other in
-          rw (now l q, kept, ends_at_key t l q, other) (sym (or_nothing _))
+          rw (now l q, kept, ends_at_key t l q, other) (grind arith)
     ]
 
     -- what goes on below goes on here, and so does what goes wrong

@@ -161,8 +161,7 @@ dotted_fields t = record (out-Table t) { dotted = true }
 -- dots extend a new table as they do nothing
 pub dotted_before : (is_new : Bool) (t : Trie) → (is_new ≡ true → t ≡ empty_table)
     → mark_here dotted (trie_before is_new t) ≡ mark_here dotted t
-dotted_before true t fresh = sym (ap (mark_here dotted) (fresh refl))
-dotted_before false t fresh = refl
+dotted_before is_new t fresh = grind arith
 
 pub extended_before : (is_new : Bool) (ks : List Key) (last : List ℕ) (d : Data) (t : Trie) (met : Met)
     → (is_new ≡ true → t ≡ empty_table) → TellsExtended ks last d t met

@@ -20,7 +20,7 @@ use Rattle.basic_toml_grow.specs.Origins.{beyond, child_origins, table_within, w
 use Rattle.basic_toml_grow.specs.Rows.{Enters}
 use Rattle.basic_toml_grow.specs.Takes.{TakesRow}
 use Rattle.basic_toml_grow.proofs.KeysInATrie.{tries_of, at_entered, with_mapped, with_same}
-use Rattle.basic_toml_grow.proofs.ItemTries.{table_entries_trie, entries_with, with_entries_trie}
+use Rattle.basic_toml_grow.proofs.ItemTries.{table_entries_trie, with_entries_trie}
 use Rattle.basic_toml_grow.proofs.LatestInATrie.{mapped_twice}
 use Rattle.basic_toml_grow.proofs.Origins.RowsPlaceOrigins.{origins_added}
 
@@ -93,13 +93,6 @@ last_taken t k c new p e is_new =
       origins = origins_added t k e.there new p e e.stands is_new
           ∙ ap (λ c. with_more (table_within t) (beyond (steps.key k) (child_origins c))) made;
     }
-
--- what stands at a position of the entries of a table
-pub stands_in : {there : Child} (t : Table) (new : List (List ℕ × Child)) (position : ℕ)
-    → slice_get (values_of (out-Table (with_entries t new)).entries) position ≡ Some there
-    → slice_get (values_of new) position ≡ Some there
-stands_in t new position stands =
-    sym (ap (λ ps. slice_get (values_of ps) position) (entries_with t new)) ∙ stands
 
 -- a key that is entered by another name
 pub same_key_entered : {gives : Child → Type 0} {k l : List ℕ} {old new : List (List ℕ × Child)} {p : Place} → k ≡ l

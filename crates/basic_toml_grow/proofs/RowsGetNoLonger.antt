@@ -30,36 +30,24 @@ none_longer : (at most : ℕ) (p : KeyTexts) (parents : List Key) (rs : List Row
     → extending_faults at (steps_of p) (rows_from parents (map lined_of rs)) ≡ []
 none_longer at most p parents [] shrink within = refl
 none_longer at most p parents (r ∷ rs) shrink within =
-    let line = lined_of r in
-    let n = length-take (out-Row r).parents parents in
-    let m = length-take most parents in
-    let own : line.parents ≡ (out-Row r).parents = ap (λ (l : Lined). l.parents) (lined_is r) in
+    let n = (out-Row r).parents in
+    let is : (lined_of r).parents ≡ n = ap (λ (l : Lined). l.parents) (lined_is r) in
     rw (
-      own,
-      too_short p (take (out-Row r).parents parents ++ line.key ∷ [])
-          (omega (arith, length-append (take (out-Row r).parents parents) (line.key ∷ []))),
+      is,
+      too_short p (take n parents ++ (lined_of r).key ∷ [])
+          (omega (arith, length-append {A = Key}, length-take {A = Key})),
     )
-    (none_longer at (out-Row r).parents p (drop (out-Row r).parents parents) rs shrink.1
-    (omega (
-      arith,
-      length-take (out-Row r).parents (drop (out-Row r).parents parents),
-      length-drop (out-Row r).parents parents,
-    )))
+    (none_longer at n p (drop n parents) rs shrink.1 (omega (arith, length-take {A = Key}, length-drop {A = Key})))
 
 pub none_crosses : (most : ℕ) (parents : List Key) (rs : List Row) → Shrink most rs
     → faults_between (rows_from parents (map lined_of rs)) ≡ []
 none_crosses most parents [] shrink = refl
 none_crosses most parents (r ∷ rs) shrink =
-    let line = lined_of r in
-    let own = take line.parents parents in
-    let left = drop line.parents parents in
-    let is : line.parents ≡ (out-Row r).parents = ap (λ (l : Lined). l.parents) (lined_is r) in
-    let many = length-map (own ++ line.key ∷ []) (λ (k : Key). k.text) in
-    let one = length-append own (line.key ∷ []) in
-    let n = length-take line.parents parents in
-    let m = length-take (out-Row r).parents left in
-    let rest = length-drop line.parents parents in
-    rw (
-      none_longer line.start (out-Row r).parents (texts (own ++ line.key ∷ [])) left rs shrink.1 (omega arith),
-      none_crosses (out-Row r).parents left rs shrink.1,
-    ) refl
+    let n = (out-Row r).parents in
+    let is : (lined_of r).parents ≡ n = ap (λ (l : Lined). l.parents) (lined_is r) in
+    let ks = take n parents ++ (lined_of r).key ∷ [] in
+    let left = drop n parents in
+    let many = length-map ks (λ (k : Key). k.text) in
+    let none = none_longer (lined_of r).start n (texts ks) left rs shrink.1
+    (omega (arith, length-append {A = Key}, length-take {A = Key}, length-drop {A = Key})) in
+    rw (is, none, none_crosses n left rs shrink.1) refl

@@ -125,9 +125,8 @@ module _ {s level : ℕ} {ks : List Key} {at : ℕ} {v : Raw} {rest : Rows} {now
         put = left.put ∙ ap (λ o. and_then o (λ t. put_rows rest t)) is_put;
         met = left.met ∙ row_behind level ks at v rest (table_trie now) (table_trie after) (omega (arith, fits)) value
             is_put;
-        come = left.come ∙ sym (more_more (table_within now) _ (rows_origins s rest))
-            ∙ ap (λ w. with_more w (rows_origins s rest))
-            (sym (one.origins ∙ ap (with_more (table_within now)) (origins_alone ks at v s)));
+        come = left.come ∙ rw (one.origins, origins_alone ks at v s)
+            (sym (more_more (table_within now) _ (rows_origins s rest)));
         clash = λ c. left.clash (or_right _ _ c);
         values = left.values ∙ ap (λ b. b || values_clash rest) free;
         high = omega (arith, left.high, fits);

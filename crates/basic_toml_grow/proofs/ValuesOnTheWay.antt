@@ -1,7 +1,6 @@
 -- The values on the way of a path, and those that rows end with.
-use Rattle.std.proofs.Common.{◌≡◌, ◌⊎◌, inl, inr, ℕ, Bool, true, [], ◌∷◌, refl, sym, ◌∙◌}
+use Rattle.std.proofs.Common.{◌≡◌, ◌⊎◌, inl, inr, ℕ, true, [], ◌∷◌, refl, sym, ◌∙◌}
 use Rattle.std.proofs.Common.{Option, Some, None, arith}
-use Rattle.std.specs.Prelude.{if◌then◌else◌}
 use Rattle.std.specs.Option.{option_or}
 use Rattle.std.specs.Str.{bytes_eq}
 use Rattle.std.proofs.lemmas.Bool.{and_parts, cases_Bool}
@@ -15,15 +14,9 @@ use Rattle.basic_toml_grow.specs.KeyTree.{Ends, value_on, Follows}
 pub none_left : {A : Type 0} (a b : Option A) → option_or a b ≡ None → a ≡ None
 none_left a b e = grind arith
 
-pub none_right : {A : Type 0} (a b : Option A) → option_or a b ≡ None → b ≡ None
-none_right a b e = grind arith
-
 pub some_or_none : {A : Type 0} (a : Option A) → ((x : A) × (a ≡ Some x)) ⊎ (a ≡ None)
 some_or_none None = inr refl
 some_or_none (Some x) = inl (x, refl)
-
-pub or_nothing : {A : Type 0} (a : Option A) → option_or a None ≡ a
-or_nothing a = grind arith
 
 same_if_some : {A : Type 0} (a b : Option A) → ((x : A) → a ≡ Some x → b ≡ Some x)
     → ((x : A) → b ≡ Some x → a ≡ Some x) → a ≡ b
@@ -54,7 +47,7 @@ none_on ends (l ∷ p) [] none begun = absurd (cc)
 none_on ends (l ∷ p) (k ∷ path) none begun = elim (cases_Bool (bytes_eq l k)) [
   | inl same ↦
       let key = (bytes_eq-Decides l k).0 same in
-      rw key (none_on (λ q. ends (k ∷ q)) p path (none_right (ends []) _ none) (rw (key, bytes_eq-same k) at begun))
+      rw key (none_on (λ q. ends (k ∷ q)) p path (rw (none_left (ends []) _ none) at none) (rw (key, bytes_eq-same k) at begun))
   | inr other ↦ let never = rw other at begun in absurd (cc)
 ]
 
@@ -70,9 +63,6 @@ keys_are (k ∷ p) (l ∷ q) e =
     grind (arith, and_parts, (bytes_eq-Decides k l).0, keys_are p q)
 
 module _ (ends : Ends) (path : KeyTexts) (at : ℕ) where
-  abbrev end_of : Option ℕ → Bool → Option ℕ
-  end_of o b = option_or o (if b then Some at else None)
-
   -- a row that goes on from no value is followed
   pub row_ends : value_on ends path ≡ None → Follows ends (and_end ends path at) path at
   row_ends free = record {

@@ -8,9 +8,9 @@ use denote.Hole.Carrier.{out}
 use Rattle.basic_toml_value.specs.Growth.{with_value, values_of}
 use Rattle.basic_toml_grow.specs.Item.{child_trie, table_trie, empty_table, trie_before}
 use Rattle.basic_toml_grow.specs.Simple.{with_entries}
-use Rattle.basic_toml_grow.proofs.ItemTries.{table_child_trie, with_entries_put}
+use Rattle.basic_toml_grow.proofs.ItemTries.{entries_with, table_child_trie, with_entries_put}
 use Rattle.basic_toml_grow.proofs.RowsEntered.{same_key_entered, within}
-use Rattle.basic_toml_grow.proofs.RowsEntered.{changed_table, row_on, stands_in, step_made, table_after}
+use Rattle.basic_toml_grow.proofs.RowsEntered.{changed_table, row_on, step_made, table_after}
 use Rattle.basic_toml_grow.specs.Rows.{Enters}
 use Rattle.basic_toml_read.specs.KeyText.{key_text_bytes}
 use Rattle.basic_toml_read.specs.SectionView.{header_texts, key_of}
@@ -27,8 +27,7 @@ use Rattle.basic_toml_grow.proofs.rows.+leading.Goals as goal
 -- what stands at the first key: a table that was made for it, where it is new
 stands_there : (t : ℕ) (c : goal.enter_dotted-After-table-1 t)
     → slice_get (values_of c.enter_again.new.self) c.in_ok-place.place.position ≡ Some c.value_mut-there.result.now
-stands_there t c =
-    stands_in c.args.table.now c.enter_again.new.self c.in_ok-place.place.position c.value_mut-there.ensures.value
+stands_there t c = rw (entries_with c.args.table.now c.enter_again.new.self) at c.value_mut-there.ensures.value
 
 fresh : (t : ℕ) (c : goal.enter_dotted-After-table-1 t) → c.in_ok-place.place.is_new ≡ true
     → (child_trie c.value_mut-there.result.now ≡ empty_table)

@@ -3,7 +3,8 @@ use Rattle.basic_toml_grammar.specs.Marks.{valued}
 use Rattle.basic_toml_grammar.specs.Trie.{mark_here}
 use Rattle.basic_toml_grow.specs.Item.{child_trie, table_trie, trie_before}
 use Rattle.basic_toml_grow.specs.Simple.{with_entries}
-use Rattle.basic_toml_grow.proofs.RowsEntered.{is_met, last_taken, stands_in, step_refused}
+use Rattle.basic_toml_grow.proofs.ItemTries.{entries_with}
+use Rattle.basic_toml_grow.proofs.RowsEntered.{is_met, last_taken, step_refused}
 use Rattle.basic_toml_grow.proofs.MetTellsStop.{last_told}
 use Rattle.basic_toml_grow.proofs.rows.enter_last.Goals as goal
 
@@ -19,7 +20,7 @@ returns c =
     let new = c.enter_value.new.self in
     let p = c.in_ok-place.place in
     let there = c.value.result.now in
-    let stands = stands_in table new p.position c.value.ensures in
+    let stands = rw (entries_with table new) at c.value.ensures in
     let before = ap (λ b. trie_before b (child_trie there)) c.if-place.false in record {
       entered = λ d is_leaf. is_met _ (table_trie (with_entries table new)) _
           (step_refused table last new p c.in_ok-place.ensures.entered there stands (λ t. mark_here (valued d) t)
