@@ -142,11 +142,7 @@ extended_refused parents last child there none = record {
     there = first;
     rest = map key_of parents ++ key_at offset last ∷ [];
     parts = refl;
-    count = omega (
-      arith,
-      length-append (map key_of parents) (key_at offset last ∷ []),
-      length-map parents key_of,
-    );
+    count = omega (arith, length-append {A = Key}, length-map parents key_of);
     stop = ap (λ o. and_on o (λ t. try_put_row (before ++ first.text ∷ [])
         (map key_of parents ++ key_at offset last ∷ []) d t)) (stopped_here before first (child_trie there) none)
         ∙ ap (λ b. stops (at_row b first)) (sym (append-nil before));

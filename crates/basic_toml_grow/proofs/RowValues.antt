@@ -1,6 +1,6 @@
 -- One row with its value, put into a table of a level: what it comes to, and what keeps it out.
-use Rattle.std.proofs.Common.{◌≡◌, ◌≤◌, ℕ, ◌+◌, ◌-◌, List, [], ◌∷◌, ◌++◌, length, map, Option, None}
-use Rattle.std.proofs.Common.{Ok, Err, Result, sym, ap, ap₂, ◌∙◌, arith, subst, option_map}
+use Rattle.std.proofs.Common.{◌≡◌, ◌≤◌, ℕ, ◌+◌, ◌-◌, List, [], ◌∷◌, ◌++◌, length, map, None}
+use Rattle.std.proofs.Common.{refl, Ok, Err, Result, sym, ap, ◌∙◌, arith, subst, option_map}
 use Rattle.std.specs.Option.{option_or}
 use Rattle.std.proofs.lemmas.List.{length-append, length-map, map-append}
 use Rattle.basic_toml_value.specs.Nesting.{nesting_limit}
@@ -18,10 +18,8 @@ use Rattle.basic_toml_grow.specs.declared.clash.Clash.{Clash}
 use Rattle.basic_toml_grow.specs.declared.item.Child.{Child}
 use Rattle.basic_toml_grow.specs.declared.item.Table.{Table}
 use Rattle.basic_toml_grow.specs.declared.met.Met.{Met}
-use Rattle.basic_toml_grow.specs.Clash.{Obstacle}
 use Rattle.basic_toml_grow.specs.Item.{table_trie}
 use Rattle.basic_toml_grow.specs.Obstacles.{and_behind, held_obstacle, value_obstacle, rows_obstacle}
-use Rattle.basic_toml_grow.specs.Origins.{child_origins, dotted_of, row_origins, table_within, with_more}
 use Rattle.basic_toml_grow.specs.Rows.{met_reason, one_row, reason}
 use Rattle.basic_toml_grow.specs.RowStops.{key_at, SaysMet, SaysHeld}
 use Rattle.basic_toml_grow.specs.Takes.{MakesChild, TakesRow, TakesRows}
@@ -55,10 +53,7 @@ module _ (parents : List keys.Key) (r : Row) (s level : ℕ) (old new : Table) w
       → rows_obstacle level (one_row parents r) (table_trie old)
       ≡ option_or (option_map (held_obstacle ks) (value_obstacle inner line.value))
       (and_behind (try_put_row [] ks (finished line.value) (table_trie old)) (λ _. None))
-  behind_level low =
-      behind_low (level + length ks - 1) _ (omega (arith, last_level))
-      ∙ ap (λ (l : ℕ). option_or (option_map (held_obstacle ks) (value_obstacle l line.value))
-      (and_behind (try_put_row [] ks (finished line.value) (table_trie old)) (λ _. None))) (sym last_level)
+  behind_level low = rw (← last_level) (behind_low inner _ low)
 
   -- its value is in the way
   pub value_refused : {clash held : Clash} {last : List ℕ}
@@ -68,12 +63,11 @@ module _ (parents : List keys.Key) (r : Row) (s level : ℕ) (old new : Table) w
       → TakesRows (one_row parents r) s level old new (Err held)
   value_refused {clash} {held} {last} makes low is_last same says =
       let its = its_value (Err clash) makes in
-      let o = and_behind (try_put_row [] ks (finished line.value) (table_trie old)) (λ _. None) in
       let says_so = rw (key_is last is_last) at says in
       record {
         entered = grind (arith, last_level, clash_alone ks line.start line.value, same, its.finished);
         named = passed_on held (option_map (held_obstacle ks) (value_obstacle inner line.value)) _
-            (λ x is. behind_level low ∙ ap (λ (a : Option Obstacle). option_or a o) is)
+            (λ x is. rw (behind_level low, is) refl)
             (says_so (value_obstacle inner line.value) its.named);
         origins = tt;
       }
@@ -89,9 +83,7 @@ module _ (parents : List keys.Key) (r : Row) (s level : ℕ) (old new : Table) w
 
   put_one : put_rows (one_row parents r) (table_trie old)
       ≡ put_row (header_texts parents ++ line.key.text ∷ []) (finished line.value) (table_trie old)
-  put_one =
-      then_same (put_row (texts ks) (finished line.value) (table_trie old))
-      ∙ ap (λ ts. put_row ts (finished line.value) (table_trie old)) same_texts
+  put_one = rw (← same_texts) (then_same (put_row (texts ks) (finished line.value) (table_trie old)))
 
   pub row_put : {child : Child} {last : List ℕ} → TakesRow parents last child old new (Ok tt)
       → MakesChild (raw_of (out-Row r).value) (out-Row r).start s inner (Ok child) → inner ≤ nesting_limit
@@ -100,17 +92,14 @@ module _ (parents : List keys.Key) (r : Row) (s level : ℕ) (old new : Table) w
       let its = its_value (Ok child) makes in
       let put = its_put last child (Ok tt) is_last takes in
       let fits = rw last_level at its.finished.fits in
-      let at = last_level in
       record {
         entered = record {
           put = put_one ∙ put.entered (finished line.value) its.finished.value;
           apart = clash_alone ks line.start line.value ∙ its.finished.apart;
-          fits = omega arith;
+          fits = omega (arith, last_level);
         };
         named = tt;
-        origins = put.origins ∙ ap (with_more (table_within old))
-            (ap (λ ts. row_origins ts (dotted_of child) (child_origins child)) (sym same_texts)
-            ∙ ap₂ (row_origins (texts ks)) its.dotted its.origins ∙ sym (origins_alone ks line.start line.value s));
+        origins = rw (origins_alone ks line.start line.value s, same_texts, ← its.dotted, ← its.origins) put.origins;
       }
 
   pub row_met : {child : Child} {met : Met} {clash : Clash} {last k : List ℕ}
@@ -129,9 +118,7 @@ module _ (parents : List keys.Key) (r : Row) (s level : ℕ) (old new : Table) w
       record {
         entered = grind (arith, put_one, same, put.entered (finished line.value) f.value);
         named = passed_on clash (and_behind o (λ _. None)) _
-            (λ x is. behind_level low
-            ∙ ap (λ (a : Option Obstacle). option_or (option_map (held_obstacle ks) a) (and_behind o (λ _. None))) free
-            ∙ is)
+            (λ x is. rw (behind_level low, free) is)
             (says_so o (put.named (finished line.value) f.value [] line.key.offset));
         origins = tt;
       }

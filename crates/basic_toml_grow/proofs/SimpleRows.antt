@@ -123,18 +123,6 @@ adds ps k c absent = record {
 pub own_entries : (t : Table) → with_entries t (out-Table t).entries ≡ t
 own_entries t = search (rules, the_lemmas)
 
--- a simple row in a table that has not its key
-module _ (s level : ℕ) (low : level ≤ nesting_limit) (t : Table) (r : Row)
-    (plain : is_plain (out-Row r).value level ≡ true) (absent : has_key (out-Table t).entries (key_of r) ≡ false) where
-  row_in : TakesRows (one_row [] r) s level t (with_entries t ((out-Table t).entries ++ entry_of s r ∷ [])) (Ok tt)
-  row_in =
-      let own = (out-Table t).entries in
-      let c = child_of s r in
-      let here : level + 0 ≡ level = omega arith in
-      row_put [] r _ _ _ _ (last_taken t (key_of r) c (own ++ entry_of s r ∷ []) (new_place (length own))
-      (adds own (key_of r) c absent) refl) (child_made s r _ (ap (is_plain (out-Row r).value) here ∙ plain))
-      (omega arith) refl
-
 -- a key is none of those before it, which all differ
 apart_before : (ks : List (List ℕ)) (k : List ℕ) (ls : List (List ℕ)) → are_distinct (ks ++ k ∷ ls) ≡ true
     → is_among ks k ≡ false
@@ -153,15 +141,21 @@ module _ (s level : ℕ) (low : level ≤ nesting_limit) (all more : List Row) (
   rest_in (r ∷ rs) t plain distinct here =
       let own = (out-Table t).entries in
       let entry = entry_of s r ∷ [] in
+      let c = child_of s r in
+      let key = key_of r in
+      let same_level : level + 0 ≡ level = omega arith in
       let after = with_entries t (own ++ entry) in
       let entries : (out-Table after).entries ≡ own ++ entry = entries_with t (own ++ entry) in
       let same : with_entries after ((out-Table after).entries ++ entries_of s rs)
       ≡ with_entries t (own ++ entries_of s (r ∷ rs)) =
       rw (with_entries_twice t (own ++ entry), entries, append_assoc) refl in
+      let one : TakesRows (one_row [] r) s level t after (Ok tt) =
+      row_put [] r _ _ _ _ (last_taken t key c (own ++ entry) (new_place (length own))
+      (adds own key c (apart_before (keys_of own) key (map key_of rs) distinct)) refl)
+      (child_made s r _ (rw same_level (first_plain level r rs plain))) (omega arith) refl in
       rw (← same) (rest_in rs after (others_plain level r rs plain)
-      (rw (entries, keys_more own (key_of r) (child_of s r), append_assoc) distinct)
-      (row_taken (rw (lone_row r (rs ++ more)) at here) (one_has_keys [] r) (row_in s level low t r
-      (first_plain level r rs plain) (apart_before (keys_of own) (key_of r) (map key_of rs) distinct))))
+      (rw (entries, keys_more own key c, append_assoc) distinct)
+      (row_taken (rw (lone_row r (rs ++ more)) at here) (one_has_keys [] r) one))
 
 -- the first of all rows, put into a table without entries: the others are left
 first_rows_in : (s level : ℕ) → level ≤ nesting_limit → (t : Table) → (out-Table t).entries ≡ []
@@ -186,8 +180,7 @@ pub first_in : {s level : ℕ} {t now : Table} (rows more : List Row) (count : �
     → are_distinct (take count (map key_of rows)) ≡ true → now ≡ with_entries t (entries_of s (take count rows))
     → more ≡ drop count rows → AreLeft s level (rows_seen [] rows) t (rows_seen [] more) now
 first_in {s} {level} {t} {now} rows more count low none plain distinct is_now is_more =
-    let parts : rows ≡ take count rows ++ more =
-    sym (take-append-drop count rows) ∙ ap (λ rs. take count rows ++ rs) (sym is_more) in
+    let parts : rows ≡ take count rows ++ more = rw is_more (sym (take-append-drop count rows)) in
     let plain_first = (and_parts _ _ (sym (list_all-append (λ (r : Row). is_plain (out-Row r).value level)
     (take count rows) more) ∙ ap (are_all_plain level) (sym parts) ∙ plain)).0 in
     rw is_now (first_rows_in s level low t none rows (take count rows) more parts plain_first

@@ -47,7 +47,8 @@ none_on ends (l ∷ p) [] none begun = absurd (cc)
 none_on ends (l ∷ p) (k ∷ path) none begun = elim (cases_Bool (bytes_eq l k)) [
   | inl same ↦
       let key = (bytes_eq-Decides l k).0 same in
-      rw key (none_on (λ q. ends (k ∷ q)) p path (rw (none_left (ends []) _ none) at none) (rw (key, bytes_eq-same k) at begun))
+      let later = rw (none_left (ends []) _ none) at none in
+      rw key (none_on (λ q. ends (k ∷ q)) p path later (rw (key, bytes_eq-same k) at begun))
   | inr other ↦ let never = rw other at begun in absurd (cc)
 ]
 
