@@ -85,8 +85,7 @@ unfolding out-Item out
 extend-returns-then-deref t c =
     let same : c.deref.result.now ≡ c.in-Table.table.value = c.deref.ensures ∙ rw c.in-Table.is refl in
     extended_refused c.args.keys.now c.args.last.now c.args.child c.args.there.now
-    (named_refuses c.args.there.now c.in-Table.table c.in-Table.is
-    (ap (λ t. (out-Table t).named) (sym same) ∙ c.if-deref.true))
+    (named_refuses c.args.there.now c.in-Table.table c.in-Table.is (rw same at c.if-deref.true))
 
 pub extend-returns-in_default : goal.extend-returns-in_default
 extend-returns-in_default t c =
@@ -103,7 +102,7 @@ extend-returns-else-deref t c =
     let was : c.deref.result.now ≡ old.value = c.deref.ensures ∙ rw c.in-Table.is refl in
     let keys = header_texts c.args.keys.now ++ c.args.last.now ∷ [] in
     let on = dotted_table there old now c.in-Table.is same
-    (ap (λ t. (out-Table t).named) (same ∙ sym was) ∙ c.if-deref.false)
+    (rw (same ∙ sym was) c.if-deref.false)
     ∙ ap (λ t. Some (table_trie t)) (sym c.deref_mut-in-Table.ensures.value) in
     let within_is = ap table_within c.deref_mut-in-Table.ensures.value ∙ dotted_within now ∙ ap table_within same in
     record {
