@@ -72,9 +72,6 @@ module _ (ends : Ends) (keys : List Key) (at : ℕ) (value : Raw) (left : Rows) 
   abbrev path : KeyTexts
   path = texts keys
 
-  abbrev front : List Fault
-  front = extending_faults at (steps_of path) left
-
   -- the next row goes on from no value
   pub row_followed : value_on ends path ≡ None → (o : Option ℕ) → Finds (and_end ends path at) left o
       → Finds ends (row keys at value left) o
@@ -89,11 +86,11 @@ module _ (ends : Ends) (keys : List Key) (at : ℕ) (value : Raw) (left : Rows) 
       let fault = dotted_fault s in
       elim ((row_ends ends path at free).told found.0 s found.1) [
         | inl before ↦ inl (found.0, before, extending_later s (steps_of found.0) fault left _ found.2)
-        | inr now ↦ inr (Contains-append_left front (faults_between left) fault
+        | inr now ↦ inr (Contains-append_left _ _ fault
             (subst (λ (x : KeyTexts × ℕ). Contains (extending_faults x.1 (steps_of x.0) left) fault) (cc) found.2))
       ]
   row_followed free (Some s) (inr later) =
-      inr (Contains-append_right front (faults_between left) (dotted_fault s) later)
+      inr (Contains-append_right _ _ (dotted_fault s) later)
 
   -- the next row goes on from a value
   pub row_goes_on : (start : ℕ) → value_on ends path ≡ Some start → Finds ends (row keys at value left) (Some start)

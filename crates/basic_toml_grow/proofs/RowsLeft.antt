@@ -1,7 +1,6 @@
 -- Rows that are left, and what all rows come to: what is put, what is met first, and where what they bring comes from.
 use Rattle.std.proofs.Common.{◌≡◌, ℕ, false, true, ◌||◌, ◌&&◌, List, [], Option, Some, Ok}
 use Rattle.std.proofs.Common.{Err, Result, refl, sym, ap, ◌∙◌, arith, length, max, ◌+◌, ◌-◌}
-use Rattle.std.specs.Option.{option_or}
 use Rattle.std.proofs.Math.Bool.{or-false}
 use Rattle.std.proofs.Math.Path.{fun_ext}
 use Rattle.std.proofs.lemmas.Bool.{and_parts, or_left, or_parts, or_right}
@@ -20,13 +19,12 @@ use Rattle.basic_toml_grow.specs.declared.clash.Clash.{Clash}
 use Rattle.basic_toml_grow.specs.declared.item.Table.{Table}
 use Rattle.basic_toml_grow.specs.Item.{table_trie}
 use Rattle.basic_toml_grow.specs.Obstacles.{rows_obstacle}
-use Rattle.basic_toml_grow.specs.Origins.{Origin, Origins, Within, no_origins, or_else, row_origins, rows_origins}
+use Rattle.basic_toml_grow.specs.Origins.{Origins, Within, no_origins, or_else, row_origins, rows_origins}
 use Rattle.basic_toml_grow.specs.Origins.{table_origin, table_within, value_origins, with_more}
 use Rattle.basic_toml_grow.specs.Rows.{EntersRows}
 use Rattle.basic_toml_grow.specs.Takes.{TakesRows}
 use Rattle.basic_toml_grow.proofs.NoObstacles.{row_behind, value_free}
 use Rattle.basic_toml_grow.proofs.ObstaclesPassOn.{passed_on}
-use Rattle.basic_toml_grow.proofs.Origins.OriginsSeen.{or_none}
 use Rattle.basic_toml_grow.proofs.Origins.RowsPlaceOrigins.{within}
 
 -- Putting the rows that are left into the table as it is, is putting all rows into the table as it was.
@@ -64,7 +62,7 @@ left_taken {s} {level} {whole} {left} {before} {now} {after} {r} are keyed takes
 
 -- where no row is, nothing is put
 else_none : (f : Origins) → or_else f no_origins ≡ f
-else_none f = fun_ext (λ p. or_none (f p))
+else_none f = fun_ext (λ p. grind arith)
 
 pub none_taken : {s level : ℕ} {t : Table} → TakesRows no_rows s level t t (Ok tt)
 none_taken {t = t} = record {
@@ -81,11 +79,8 @@ no_parents_seen rows none = ap (λ (ks : List keys.Key). rows_seen ks (tables.ou
 pub then_same : {A : Type 0} (o : Option A) → and_then o (λ x. Some x) ≡ o
 then_same o = grind arith
 
-option_assoc : (a b c : Option Origin) → option_or (option_or a b) c ≡ option_or a (option_or b c)
-option_assoc a b c = grind arith
-
 more_more : (w : Within) (f g : Origins) → with_more (with_more w f) g ≡ with_more w (or_else f g)
-more_more w f g = ap (within w.made w.section) (fun_ext (λ p. option_assoc (w.below p) (f p) (g p)))
+more_more w f g = ap (within w.made w.section) (fun_ext (λ p. grind arith))
 
 -- a row alone, and what it brings
 module _ (ks : List Key) (at : ℕ) (v : Raw) where

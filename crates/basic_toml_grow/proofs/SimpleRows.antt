@@ -86,13 +86,13 @@ all_lower l (r ∷ rs) plain =
     let own = value_lower (out-Row r).value l (first_plain l r rs plain) in
     rw (own, all_lower l rs (others_plain l r rs plain)) refl
 
-entry_keys : (s : ℕ) (rows : List Row) → keys_of (entries_of s rows) ≡ map key_of rows
-entry_keys s [] = refl
-entry_keys s (r ∷ rs) = rw (entry_keys s rs) refl
-
 pub entry_texts : (s : ℕ) (rows : List Row) (entries : List (Pair Child)) → seen entries ≡ entries_of s rows
     → texts_of entries ≡ map key_of rows
-entry_texts s rows entries is = sym (keys_of-seen entries) ∙ ap keys_of is ∙ entry_keys s rows
+entry_texts s rows entries is = rw (← keys_of-seen entries, is) (keys rows)
+  where
+    keys : (rows : List Row) → keys_of (entries_of s rows) ≡ map key_of rows
+    keys [] = refl
+    keys (r ∷ rs) = rw (keys rs) refl
 
 -- a value that is put last
 last_value : (ps : List (List ℕ × Child)) (k : List ℕ) (c : Child)

@@ -60,8 +60,7 @@ enter_dotted-returns t c =
       entered = λ d is_leaf.
           let g : Trie → Option Trie = λ t. and_then (mark_here dotted t) (λ t. put_row (rest ++ last ∷ []) d t) in
           let alike : g (trie_before p.is_new (child_trie there)) ≡ g (child_trie there) =
-          ap (λ m. and_then m (λ t. put_row (rest ++ last ∷ []) d t))
-          (dotted_before p.is_new (child_trie there) (λ new. (fresh t c new).0)) in
+          rw (dotted_before p.is_new (child_trie there) (λ new. (fresh t c new).0)) refl in
           let on = row_on key rest last d (table_trie table) in
           let put = changed_table table key new p entered there stands in
           let made = on ∙ step_made table key new p entered there stands g ∙ ap (option_map put) alike in

@@ -1,7 +1,6 @@
-use Rattle.std.proofs.Common.{ap, ◌∙◌}
 use Rattle.basic_toml_grammar.specs.Marks.{valued}
 use Rattle.basic_toml_grammar.specs.Trie.{mark_here}
-use Rattle.basic_toml_grow.specs.Item.{child_trie, table_trie, trie_before}
+use Rattle.basic_toml_grow.specs.Item.{table_trie}
 use Rattle.basic_toml_grow.specs.Simple.{with_entries}
 use Rattle.basic_toml_grow.proofs.ItemTries.{entries_with}
 use Rattle.basic_toml_grow.proofs.RowsEntered.{is_met, last_taken, step_refused}
@@ -21,11 +20,11 @@ returns c =
     let p = c.in_ok-place.place in
     let there = c.value.result.now in
     let stands = rw (entries_with table new) at c.value.ensures in
-    let before = ap (λ b. trie_before b (child_trie there)) c.if-place.false in record {
+    let is_old = c.if-place.false in record {
       entered = λ d is_leaf. is_met _ (table_trie (with_entries table new)) _
           (step_refused table last new p c.in_ok-place.ensures.entered there stands (λ t. mark_here (valued d) t)
-          (ap (mark_here (valued d)) before ∙ c.what_is_met.ensures.stands d));
+          (rw is_old (c.what_is_met.ensures.stands d)));
       named = λ d is_leaf. last_told table last new p c.in_ok-place.ensures.entered there stands c.what_is_met.result d
-          (rw before c.what_is_met.ensures.named);
+          (rw is_old c.what_is_met.ensures.named);
       origins = tt;
     }
