@@ -35,8 +35,8 @@ module _ {rows : Rows} {start s level : ℕ} {old : Table} (keyed : rows_keyed r
   pub inline_refused : {new : Table} {clash : Clash} → TakesRows rows s (level + 1) old new (Err clash)
       → MakesChild (Raw.inline rows) start s level (Err clash)
   inline_refused {new} {clash} takes =
-      let bare = Some (standings.table false false false) in
-      let met = rw (empty, rows_aside (level + 1) rows bare None None None no_tries keyed) at takes.named in
+      let standing = Some (standings.table false false false) in
+      let met = rw (empty, rows_aside (level + 1) rows standing None None None no_tries keyed) at takes.named in
       record {
         finished = grind (arith, refused_clash rows keyed, takes.entered);
         named = rw (behind_low (level + 1) (rows_obstacle (level + 1) rows nothing) (omega arith)) met;

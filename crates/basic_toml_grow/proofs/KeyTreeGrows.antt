@@ -83,9 +83,9 @@ module _ {gives : KeyTree → Type 0} (t there : KeyTree) (k : List ℕ) (new : 
         let none : ends_of t [] ≡ None = rw (key_tree_ends t) t_end in
         rw (none, fun_ext stood) refl
 
-    now : (l : List ℕ) (path : KeyTexts)
+    ends_behind : (l : List ℕ) (path : KeyTexts)
         → ends_of u (l ∷ path) ≡ ends_below (option_map ends_of (value_at (with_value new at gone) l)) path
-    now l path = rw (filled_ends t new at gone, value_at-map ends_of (with_value new at gone) l) refl
+    ends_behind l path = rw (filled_ends t new at gone, value_at-map ends_of (with_value new at gone) l) refl
 
     -- where what ends there, what ends here
     ends : (path : KeyTexts) (start : ℕ) → Follows (ends_of there) (ends_of gone) path start → (q : KeyTexts)
@@ -94,11 +94,11 @@ module _ {gives : KeyTree → Type 0} (t there : KeyTree) (k : List ℕ) (new : 
     ends path start deeper (l ∷ q) = elim (cases_Bool (bytes_eq l k)) [
       | inl same ↦
           let put = put_at k e.there (out-KeyTree t).below new at e.entered there stands gone in
-          rw ((bytes_eq-Decides l k).0 same, now k q, put, stood q, bytes_eq-same k)
+          rw ((bytes_eq-Decides l k).0 same, ends_behind k q, put, stood q, bytes_eq-same k)
           (follows_so (ends_of there) path start (ends_of gone) deeper q)
       | inr other ↦
           let kept = kept_elsewhere k e.there (out-KeyTree t).below new at e.entered there stands gone l other in
-          rw (now l q, kept, ends_at_key t l q, other) (grind arith)
+          rw (ends_behind l q, kept, ends_at_key t l q, other) (grind arith)
     ]
 
     -- what goes on below goes on here, and so does what goes wrong

@@ -91,15 +91,13 @@ module _ {gives : Child → Type 0} (before : Table) (k : List ℕ) (new : List 
   abbrev stood : Trie
   stood = trie_before p.is_new (child_trie there)
 
-  below_there : below (steps.key k) (table_trie before) ≡ stood
-  below_there = ap (below (steps.key k)) (table_entries_trie before)
-      ∙ (at_entered child_trie k (out-Table before).entries new p e there stands).0
-
   -- a change at the key that stops
   step_stops : (g : Trie → Outcome Trie) (x : Stop) → g stood ≡ stops x
       → try_step (steps.key k) g (table_trie before) ≡ stops x
   step_stops g x stop =
-      path_here (steps.key k ∷ []) g (λ t. stops x) (table_trie before) (ap g below_there ∙ stop)
+      let entries = ap (below (steps.key k)) (table_entries_trie before) in
+      let is = entries ∙ (at_entered child_trie k (out-Table before).entries new p e there stands).0 in
+      path_here (steps.key k ∷ []) g (λ t. stops x) (table_trie before) (ap g is ∙ stop)
       ∙ path_stop (steps.key k ∷ []) x (table_trie before)
 
   pub last_told : (met : Met) (d : Data) → TellsLast stood met → TellsRow [] k d (table_trie before) met

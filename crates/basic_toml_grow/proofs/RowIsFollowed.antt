@@ -37,15 +37,15 @@ module _ {all : Option ℕ} (parents own : List keys.Key) (rows : List Row) (i :
       let front = map key_of (take (out-Row r).parents parents) in
       rw (map-append (λ (k : Key). k.text) front ((lined_of r).key ∷ []), lined_is r, ← own_is, ← last_is) goes
 
-  next : all ≡ crossed_after (ends_of tree) (and_rows parents r (drop (i + 1) rows))
-  next = passed ∙ rw (next_row parents rows i r within is) refl
+  row_is_next : all ≡ crossed_after (ends_of tree) (and_rows parents r (drop (i + 1) rows))
+  row_is_next = passed ∙ rw (next_row parents rows i r within is) refl
 
   pub gone_on : (after : KeyTree) → FollowsRow after (Ok tt) → all ≡ crossed_after (ends_of after) left_here
   gone_on after goes =
       let follows = by_line after (Ok tt) goes in
-      next ∙ rw (follows.free, ← fun_ext (follows_so (ends_of tree) path (lined_of r).start (ends_of after) follows))
-      refl
+      let ends = fun_ext (follows_so (ends_of tree) path (lined_of r).start (ends_of after) follows) in
+      row_is_next ∙ rw (follows.free, ← ends) refl
 
   pub stopped : (after : KeyTree) (e : Crossed) → FollowsRow after (Err e) → Looks all (Err e)
   stopped after Memory goes = tt
-  stopped after (At at) goes = next ∙ rw (by_line after (Err (At at)) goes) refl
+  stopped after (At at) goes = row_is_next ∙ rw (by_line after (Err (At at)) goes) refl

@@ -55,16 +55,12 @@ kept_is _ l plain = record {
   origins = λ at s. search (rules, the_lemmas, raws.the_lemmas);
 }
 
-item_is : (v : Raw) (l : ℕ) → is_plain v l ≡ true → IsKept (item_of v) (raw_of v)
-item_is v l plain =
-    rw (roll-out-Raw v) at (kept_is (out-Raw v) l (rw (roll-out-Raw v) plain))
-
 -- and as a child
 pub plain_made : {start s level : ℕ} {c : Child} (v : Raw) → is_plain v level ≡ true
     → child_trie c ≡ item_trie (item_of v) → child_origins c ≡ item_origins (item_of v) start s
     → dotted_of c ≡ table_origin false start s → MakesChild (raw_of v) start s level (Ok c)
 plain_made {start} {s} {level} v plain trie origins dotted =
-    let is = item_is v level plain in
+    let is = rw (roll-out-Raw v) at (kept_is (out-Raw v) level (rw (roll-out-Raw v) plain)) in
     let at = plain_value v level plain in
     record {
       finished = record { value = trie ∙ is.trie; apart = at.apart; fits = at.fits };
@@ -124,11 +120,11 @@ pub own_entries : (t : Table) → with_entries t (out-Table t).entries ≡ t
 own_entries t = search (rules, the_lemmas)
 
 -- a key is none of those before it, which all differ
-apart_before : (ks : List (List ℕ)) (k : List ℕ) (ls : List (List ℕ)) → are_distinct (ks ++ k ∷ ls) ≡ true
+key_is_new : (ks : List (List ℕ)) (k : List ℕ) (ls : List (List ℕ)) → are_distinct (ks ++ k ∷ ls) ≡ true
     → is_among ks k ≡ false
-apart_before [] k ls distinct = refl
-apart_before (l ∷ ks) k ls distinct =
-    grind (arith, is_among-insert ks ls k l, bytes_eq-Decides k l, bytes_eq-Decides l k, apart_before ks k ls, distinct)
+key_is_new [] k ls distinct = refl
+key_is_new (l ∷ ks) k ls distinct =
+    grind (arith, is_among-insert ks ls k l, bytes_eq-Decides k l, bytes_eq-Decides l k, key_is_new ks k ls, distinct)
 
 -- the first of the rows that are left, put into a table that has none of their keys
 module _ (s level : ℕ) (low : level ≤ nesting_limit) (all more : List Row) (was : Table) where
@@ -151,7 +147,7 @@ module _ (s level : ℕ) (low : level ≤ nesting_limit) (all more : List Row) (
       rw (with_entries_twice t (own ++ entry), entries, append_assoc) refl in
       let one : TakesRows (one_row [] r) s level t after (Ok tt) =
       row_put [] r _ _ _ _ (last_taken t key c (own ++ entry) (new_place (length own))
-      (adds own key c (apart_before (keys_of own) key (map key_of rs) distinct)) refl)
+      (adds own key c (key_is_new (keys_of own) key (map key_of rs) distinct)) refl)
       (child_made s r _ (rw same_level (first_plain level r rs plain))) (omega arith) refl in
       rw (← same) (rest_in rs after (others_plain level r rs plain)
       (rw (entries, keys_more own key c, append_assoc) distinct)

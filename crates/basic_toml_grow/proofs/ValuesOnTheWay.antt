@@ -1,5 +1,5 @@
 -- The values on the way of a path, and those that rows end with.
-use Rattle.std.proofs.Common.{◌≡◌, ◌⊎◌, inl, inr, ℕ, true, [], ◌∷◌, refl, sym, ◌∙◌}
+use Rattle.std.proofs.Common.{◌≡◌, ◌⊎◌, inl, inr, ℕ, true, [], ◌∷◌, refl, ◌∙◌}
 use Rattle.std.proofs.Common.{Option, Some, None, arith}
 use Rattle.std.specs.Option.{option_or}
 use Rattle.std.specs.Str.{bytes_eq}
@@ -17,12 +17,6 @@ none_left a b e = grind arith
 pub some_or_none : {A : Type 0} (a : Option A) → ((x : A) × (a ≡ Some x)) ⊎ (a ≡ None)
 some_or_none None = inr refl
 some_or_none (Some x) = inl (x, refl)
-
-same_if_some : {A : Type 0} (a b : Option A) → ((x : A) → a ≡ Some x → b ≡ Some x)
-    → ((x : A) → b ≡ Some x → a ≡ Some x) → a ≡ b
-same_if_some (Some x) b to from = sym (to x refl)
-same_if_some None None to from = refl
-same_if_some None (Some x) to from = from x refl
 
 -- a path goes on from the value that begins there
 pub record GoesOnFrom (before : Ends) (path : KeyTexts) (at : ℕ) : Type 0 where
@@ -47,8 +41,8 @@ none_on ends (l ∷ p) [] none begun = absurd (cc)
 none_on ends (l ∷ p) (k ∷ path) none begun = elim (cases_Bool (bytes_eq l k)) [
   | inl same ↦
       let key = (bytes_eq-Decides l k).0 same in
-      let later = rw (none_left (ends []) _ none) at none in
-      rw key (none_on (λ q. ends (k ∷ q)) p path later (rw (key, bytes_eq-same k) at begun))
+      let none_later = rw (none_left (ends []) _ none) at none in
+      rw key (none_on (λ q. ends (k ∷ q)) p path none_later (rw (key, bytes_eq-same k) at begun))
   | inr other ↦ let never = rw other at begun in absurd (cc)
 ]
 

@@ -68,11 +68,11 @@ enter_value-returns t c =
 
 pub children_of-loop-element-preserved : goal.children_of-loop-element-preserved
 children_of-loop-element-preserved t c =
-    let pushed = c.push_reserved.ensures in
+    let push = c.push_reserved.ensures in
     record {
-      left = rw pushed.items (element_made c.in-Some.element c.next.new.self
+      left = rw push.items (element_made c.in-Some.element c.next.new.self
           (rw c.in-Some.ensures.steps at c.loop-element.invariant.left) c.in_ok-child.child c.in_ok-child.ensures);
-      room = grind (arith, c.in-Some.ensures.steps, c.loop-element.invariant.room, pushed.len, pushed.capacity);
+      room = grind (arith, c.in-Some.ensures.steps, c.loop-element.invariant.room, push.len, push.capacity);
     }
 
 pub children_of-returns-clause-finished : goal.children_of-returns-clause-finished
@@ -133,8 +133,8 @@ take_any_rows-returns-then-are_all_plain t c =
 -- many plain rows, the first of them taken at once
 pub take_many_rows-returns : goal.take_many_rows-returns
 take_many_rows-returns t c =
-    let taken = c.in_ok-with_first_rows.ensures in
+    let first_rows = c.in_ok-with_first_rows.ensures in
     left_taken (first_in c.args.rows.items c.with_first_rows.new.rows c.in_ok-index.count (omega arith) c.requires.none
     c.requires.plain (rw c.as_slice.ensures.value at c.in_ok-index.ensures.index.distinct)
-    (rw c.drain-rows.ensures at taken.after) (rw c.drain-rows.ensures at taken.left))
+    (rw c.drain-rows.ensures at first_rows.after) (rw c.drain-rows.ensures at first_rows.left))
     (rows_are_keyed [] c.args.rows.items) c.enter_rows.ensures
