@@ -1,6 +1,6 @@
 -- The clash that is answered for a row says what was met, or what stops its value.
-use Rattle.std.proofs.Common.{◌≡◌, ◌≤◌, ℕ, zero, suc, ◌+◌, ◌-◌, List, [], ◌∷◌, ◌++◌, refl, sym, ap, ap₂, ◌∙◌}
-use Rattle.std.proofs.Common.{Some, None, arith, Result, Ok, Err, IfOk, length, take, map}
+use Rattle.std.proofs.Common.{◌≡◌, ℕ, zero, suc, ◌+◌, ◌-◌, List, [], ◌∷◌, ◌++◌, refl, sym, ap, ap₂, ◌∙◌}
+use Rattle.std.proofs.Common.{Some, None, arith, length, take, map}
 use Rattle.std.specs.List.{slice_get}
 use Rattle.std.proofs.Math.Seq.{take-append_seam}
 use Rattle.std.proofs.lemmas.List.{length-append, length-map, take-append-le, take-map}
@@ -16,22 +16,12 @@ use Rattle.basic_toml_grow.specs.Clash.{IsStop, NamesObstacle}
 use Rattle.basic_toml_grow.specs.Obstacles.{and_behind}
 use Rattle.basic_toml_grow.specs.RowStops.{key_at, SaysMet}
 
-pub same_row : {p q : KeyTexts} {n m : ℕ} {t u : List ℕ} → p ≡ q → n ≡ m → t ≡ u
-    → at_row p (key_at n t) ≡ at_row q (key_at m u)
-same_row a b c = cc
-
 -- a clash that is a stop
 names : (clash : Clash) (x : Stop) (o : Outcome Trie) → IsStop clash x → o ≡ stops x
     → NamesObstacle (and_behind o (λ _. None)) clash
 names clashes.Memory x o is told = absurd is
 names clashes.Deep x o is told = absurd is
 names _ x o is told = (x, (is, ap (λ (o : Outcome Trie). and_behind o (λ _. None)) told))
-
--- what holds of each clash that is a stop
-pub if_stop : {E : Type 0} (result : Result Clash E) (x : Stop) (P : Clash → Type 0)
-    → ((clash : Clash) → IsStop clash x → P clash) → IfOk result (λ clash. IsStop clash x) → IfOk result P
-if_stop (Ok clash) x P f is = f clash is
-if_stop (Err error) x P f is = tt
 
 -- where a list goes on
 stands_next : {A : Type 0} (xs : List A) (x : A) (ys : List A) → slice_get (xs ++ x ∷ ys) (length xs) ≡ Some x
@@ -49,10 +39,9 @@ module _ (parents : List keys.Key) (offset : ℕ) (last : List ℕ) (left number
     (is_number : number ≡ length parents + 1 - left)
     (path : KeyTexts) (is_path : path ≡ header_texts (take number parents)) (clash : Clash) where
   -- the clash names the key at the number
-  said_at : (k : Key) → (number ≤ length parents
-      → slice_get (map key_of parents ++ key_at offset last ∷ []) number ≡ Some k) → IsStop clash (at_row path k)
+  pub key_said : (r : keys.Key) → slice_get parents number ≡ Some r → IsStop clash (at_row path (key_of r))
       → SaysMet (map key_of parents) (key_at offset last) (mets.Header left) clash
-  said_at k at said = λ o told.
+  key_said r at said = λ o told.
       let seen = map key_of parents in
       let own = key_at offset last ∷ [] in
       let left = told.there ∷ told.rest in
@@ -60,17 +49,10 @@ module _ (parents : List keys.Key) (offset : ℕ) (last : List ℕ) (left number
       let all : length told.front + length left ≡ length parents + 1 =
       omega (arith, ap length told.parts, length-append told.front left, length-append seen own, many) in
       let n : number ≡ length told.front = omega (arith, is_number, told.count, all) in
-      let within : number ≤ length seen = omega (arith, all, n, many) in
       let front : told.front ≡ map key_of (take number parents) =
       sym (take-append_seam told.front left) ∙ ap₂ (λ n ks. take n ks) (sym n) (sym told.parts)
-      ∙ take-append-le number seen own within ∙ take-map key_of number parents in
-      let next : Some told.there ≡ Some k =
+      ∙ take-append-le number seen own (omega (arith, all, n, many)) ∙ take-map key_of number parents in
+      let next : Some told.there ≡ Some (key_of r) =
       sym (stands_next told.front told.there told.rest) ∙ ap₂ (λ n ks. slice_get ks n) (sym n) (sym told.parts)
-      ∙ at (omega (arith, within, many)) in
-      names clash (at_row path k) o said
-      (told.stop ∙ cc (ap texts front, is_path, next))
-
-  pub key_said : (r : keys.Key) → slice_get parents number ≡ Some r → IsStop clash (at_row path (key_of r))
-      → SaysMet (map key_of parents) (key_at offset last) (mets.Header left) clash
-  key_said r at said =
-      said_at (key_of r) (λ within. stands_seen parents number r (key_at offset last ∷ []) at) said
+      ∙ stands_seen parents number r own at in
+      names clash (at_row path (key_of r)) o said (told.stop ∙ cc (ap texts front, is_path, next))

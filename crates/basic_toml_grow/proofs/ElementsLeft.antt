@@ -1,9 +1,9 @@
 -- Elements that are left, and what all elements of an array come to: their data, what is met first, and where they come
 -- from.
-use Rattle.std.proofs.Common.{◌≡◌, ◌≤◌, ◌<◌, ℕ, ◌||◌, List, [], ◌∷◌, ◌++◌, map, Ok, Err, refl, sym, ap, ◌∙◌, arith}
-use Rattle.std.proofs.Common.{append_assoc, subst, Option}
+use Rattle.std.proofs.Common.{◌≡◌, ℕ, ◌||◌, List, [], ◌∷◌, ◌++◌, map, Ok, refl, sym, ap, ◌∙◌, arith}
+use Rattle.std.proofs.Common.{append_assoc, max, subst, Option}
 use Rattle.std.specs.Option.{option_or}
-use Rattle.std.proofs.lemmas.List.{append-nil, map_push}
+use Rattle.std.proofs.lemmas.List.{map_push}
 use Rattle.basic_toml_value.specs.Data.{Items, no_items, item, items_of}
 use Rattle.basic_toml_value.specs.Nesting.{nesting_limit}
 use Rattle.basic_toml_grammar.specs.Sections.{Elements, no_elements}
@@ -15,16 +15,14 @@ use Rattle.basic_toml_read.specs.declared.section.Element.{Element, out-Element}
 use Rattle.basic_toml_read.proofs.RowsHaveKeys.{every_element}
 use Rattle.basic_toml_read.proofs.ViewsSeen.{placed_is}
 use Rattle.basic_toml_plain.specs.Tries.{tree_data}
-use Rattle.basic_toml_grow.specs.declared.clash.Clash.{Clash}
 use Rattle.basic_toml_grow.specs.declared.item.Child.{Child}
-use Rattle.basic_toml_grow.specs.Clash.{Obstacle, NamesObstacle}
+use Rattle.basic_toml_grow.specs.Clash.{Obstacle}
 use Rattle.basic_toml_grow.specs.Item.{child_trie}
-use Rattle.basic_toml_grow.specs.Obstacles.{value_obstacle, elements_obstacle}
+use Rattle.basic_toml_grow.specs.Obstacles.{elements_obstacle}
 use Rattle.basic_toml_grow.specs.Origins.{child_origins, elements_origins}
 use Rattle.basic_toml_grow.specs.Rows.{AreFinished}
 use Rattle.basic_toml_grow.specs.Takes.{MakesChild}
 use Rattle.basic_toml_grow.proofs.NoObstacles.{value_free}
-use Rattle.basic_toml_grow.proofs.ObstaclesPassOn.{passed_on}
 
 -- the data of children, before that of elements
 abbrev pub before_items : List Child → Items → Items
@@ -42,19 +40,7 @@ pub record ElementsAreLeft (s level : ℕ) (whole : Elements) (made : List Child
   pub come : elements_origins s whole ≡ map child_origins made ++ elements_origins s rest
   pub clash : elements_clash whole ≡ elements_clash rest
   pub met : elements_obstacle level whole ≡ elements_obstacle level rest
-  pub fits : elements_level level rest ≤ nesting_limit → elements_level level whole ≤ nesting_limit
-  pub deep : nesting_limit < elements_level level rest → nesting_limit < elements_level level whole
-
--- where none is made yet, all are left
-pub all_elements_left : (s level : ℕ) (whole : Elements) → ElementsAreLeft s level whole [] whole
-all_elements_left s level whole = record {
-  values = refl;
-  come = refl;
-  clash = refl;
-  met = refl;
-  fits = λ low. low;
-  deep = λ deep. deep;
-}
+  pub high : max nesting_limit (elements_level level whole) ≡ max nesting_limit (elements_level level rest)
 
 -- no elements are left
 pub elements_done : {s level : ℕ} {whole : Elements} {made : List Child}
@@ -62,45 +48,28 @@ pub elements_done : {s level : ℕ} {whole : Elements} {made : List Child}
 elements_done {made = made} left = record {
   values = sym (all_before made) ∙ left.values;
   apart = left.clash;
-  fits = left.fits (omega arith);
+  fits = omega (arith, left.high);
 }
   where
     all_before : (made : List Child) → before_items made no_items ≡ items_of (map tree_data (map child_trie made))
     all_before [] = refl
     all_before (c ∷ made) = ap (λ is. item (tree_data (child_trie c)) is) (all_before made)
 
-pub elements_come : {s level : ℕ} {whole : Elements} {made : List Child}
-    → ElementsAreLeft s level whole made no_elements → map child_origins made ≡ elements_origins s whole
-elements_come {made = made} left = sym (left.come ∙ append-nil (map child_origins made))
-
-module _ {s level : ℕ} {whole : Elements} {made : List Child} (e : Element) (rest : List Element)
-    (left : ElementsAreLeft s level whole made (elements_view (e ∷ rest))) where
-  -- one more element is made
-  pub element_made : (c : Child) → MakesChild (raw_of (out-Element e).value) (out-Element e).offset s level (Ok c)
-      → ElementsAreLeft s level whole (made ++ c ∷ []) (elements_view rest)
-  element_made c makes =
-      let p = placed_of e in
-      let is = subst (λ (p : Placed). MakesChild p.value p.offset s level (Ok c)) (sym (placed_is e)) makes in
-      let done = is.finished in
-      let low = done.fits in
-      let others = elements_view rest in
-      record {
-        values = one_more made c (finished_elements others)
-            ∙ ap (λ t. before_items made (item (tree_data t) (finished_elements others))) done.value ∙ left.values;
-        come = left.come ∙ sym (rw (map_push child_origins made c, append_assoc, is.origins) refl);
-        clash = left.clash ∙ ap (λ b. b || elements_clash others) done.apart;
-        met = left.met ∙ ap (λ (o : Option Obstacle). option_or o (elements_obstacle level others))
-            (value_free level p.value (every_element e) done.apart low);
-        fits = λ f. left.fits (omega arith);
-        deep = λ d. left.deep (omega arith);
-      }
-
-  -- what it meets first all meet first
-  pub element_stopped : (clash : Clash)
-      → MakesChild (raw_of (out-Element e).value) (out-Element e).offset s level (Err clash)
-      → NamesObstacle (elements_obstacle level whole) clash
-  element_stopped clash makes =
-      let is = subst (λ (p : Placed). MakesChild p.value p.offset s level (Err clash)) (sym (placed_is e)) makes in
-      passed_on clash (value_obstacle level (placed_of e).value) (elements_obstacle level whole)
-      (λ x is. left.met ∙ ap (λ (o : Option Obstacle). option_or o (elements_obstacle level (elements_view rest))) is)
-      is.named
+-- one more element is made
+pub element_made : {s level : ℕ} {whole : Elements} {made : List Child} (e : Element) (rest : List Element)
+    → ElementsAreLeft s level whole made (elements_view (e ∷ rest)) → (c : Child)
+    → MakesChild (raw_of (out-Element e).value) (out-Element e).offset s level (Ok c)
+    → ElementsAreLeft s level whole (made ++ c ∷ []) (elements_view rest)
+element_made {s} {level} {whole} {made} e rest left c makes =
+    let is = subst (λ (p : Placed). MakesChild p.value p.offset s level (Ok c)) (sym (placed_is e)) makes in
+    let done = is.finished in
+    let low = done.fits in
+    let others = elements_view rest in
+    record {
+      values = rw (one_more made c (finished_elements others), done.value) left.values;
+      come = rw (map_push child_origins made c, append_assoc, is.origins) left.come;
+      clash = left.clash ∙ ap (λ b. b || elements_clash others) done.apart;
+      met = left.met ∙ ap (λ (o : Option Obstacle). option_or o (elements_obstacle level others))
+          (value_free level (placed_of e).value (every_element e) done.apart low);
+      high = omega (arith, left.high);
+    }

@@ -1,6 +1,6 @@
 -- The table of an inline table: it is finished as the tree of its rows, and what keeps a row out makes rows clash.
-use Rattle.std.proofs.Common.{◌≡◌, ◌<◌, ℕ, ◌+◌, true, false, inl, inr, Some, None, Ok, Err, Box, Global}
-use Rattle.std.proofs.Common.{sym, ap, ◌∙◌, arith, rules, subst, codes, Option}
+use Rattle.std.proofs.Common.{◌≡◌, ◌<◌, ℕ, ◌+◌, true, false, Some, None, Ok, Err, Box, Global}
+use Rattle.std.proofs.Common.{sym, ap, ◌∙◌, arith, rules, codes}
 use Rattle.std.proofs.lemmas.Bool.{true_from_ne_false}
 use Rattle.basic_toml_value.specs.Nesting.{nesting_limit}
 use Rattle.basic_toml_grammar.specs.Sections.{Raw, Rows}
@@ -11,16 +11,13 @@ use Rattle.basic_toml_grammar.specs.Trie.{nothing, no_tries, put_rows}
 use Rattle.basic_toml_grammar.proofs.Tries.RowsInATrie.{rows_put, inline_data}
 use Rattle.basic_toml_plain.specs.Tries.{leaf, tree_data}
 use Rattle.basic_toml_grow.specs.declared.clash.Clash.{Clash}
-use Rattle.basic_toml_grow.specs.declared.clash.Clash.TheVariants.{Memory, Deep}
 use Rattle.basic_toml_grow.specs.declared.item.Item as items
 use Rattle.basic_toml_grow.specs.declared.item.Child.{Child}
 use Rattle.basic_toml_grow.specs.declared.item.Table.{Table}
-use Rattle.basic_toml_grow.specs.Clash.{Obstacle, NamesObstacle}
 use Rattle.basic_toml_grow.specs.Item.{child_trie, empty_table, item_trie, table_trie}
-use Rattle.basic_toml_grow.specs.Obstacles.{rows_obstacle, value_obstacle}
+use Rattle.basic_toml_grow.specs.Obstacles.{rows_obstacle}
 use Rattle.basic_toml_grow.specs.Origins.{child_origins, dotted_of, entry, item_origins, rows_origins, table_origin}
 use Rattle.basic_toml_grow.specs.Origins.{value_origin, with_more}
-use Rattle.basic_toml_grow.specs.Rows.{AreKeptOut, IsUnfinished}
 use Rattle.basic_toml_grow.specs.Takes.{MakesChild, TakesRows}
 use Rattle.basic_toml_grow.proofs.NoObstacles.{rows_aside}
 use Rattle.basic_toml_grow.proofs.ObstaclesPassOn.{behind_low}
@@ -29,31 +26,20 @@ use Rattle.basic_toml_grow.proofs.Origins.OriginsSeen.{inline_seen, fresh_within
 -- rows that no empty table takes clash
 refused_clash : (rows : Rows) → rows_keyed rows ≡ true → put_rows rows empty_table ≡ None → rows_clash rows ≡ true
 refused_clash rows keyed none = true_from_ne_false _ (λ clear.
-    let put = rows_put rows (Some (standings.table false false false)) keyed clear in
-    let is : put_rows rows empty_table ≡ Some put.0 = put.1 in
-    cc (none, is))
+    let put = rows_put rows (Some (standings.table false false false)) keyed clear in cc (none, put.1))
 
 -- rows put into a table that is empty, at a level of those within the limit
-module _ (rows : Rows) (keyed : rows_keyed rows ≡ true) (start s level : ℕ) (low : level < nesting_limit) (old : Table)
-    (empty : table_trie old ≡ empty_table) where
-  kept_out : (clash : Clash) → AreKeptOut rows (level + 1) (table_trie old) clash
-      → IsUnfinished (Raw.inline rows) level clash
-  kept_out Memory kept = tt
-  kept_out Deep kept = omega arith
-  kept_out _ (inl clash) = clash
-  kept_out _ (inr none) = refused_clash rows keyed (ap (put_rows rows) (sym empty) ∙ none)
-
+module _ {rows : Rows} {start s level : ℕ} {old : Table} (keyed : rows_keyed rows ≡ true)
+    (empty : table_trie old ≡ empty_table) (low : level < nesting_limit) where
   -- what they meet first the inline table does
-  pub inline_refused : (new : Table) (clash : Clash) → TakesRows rows s (level + 1) old new (Err clash)
+  pub inline_refused : {new : Table} {clash : Clash} → TakesRows rows s (level + 1) old new (Err clash)
       → MakesChild (Raw.inline rows) start s level (Err clash)
-  inline_refused new clash takes =
-      let same : rows_obstacle (level + 1) rows (table_trie old) ≡ value_obstacle level (Raw.inline rows) =
-      ap (rows_obstacle (level + 1) rows) empty
-      ∙ rows_aside (level + 1) rows (Some (standings.table false false false)) None None None no_tries keyed
-      ∙ sym (behind_low (level + 1) (rows_obstacle (level + 1) rows nothing) (omega arith)) in
+  inline_refused {new} {clash} takes =
+      let standing = Some (standings.table false false false) in
+      let met = rw (empty, rows_aside (level + 1) rows standing None None None no_tries keyed) at takes.named in
       record {
-        finished = kept_out clash takes.entered;
-        named = subst (λ (o : Option Obstacle). NamesObstacle o clash) same takes.named;
+        finished = grind (arith, refused_clash rows keyed, takes.entered);
+        named = rw (behind_low (level + 1) (rows_obstacle (level + 1) rows nothing) (omega arith)) met;
         origins = tt;
         dotted = tt;
       }
@@ -66,13 +52,12 @@ module _ (rows : Rows) (keyed : rows_keyed rows ≡ true) (start s level : ℕ) 
       let is : item_trie (items.Inline table) ≡ leaf (tree_data (table_trie table.value)) =
       search (rules, items.the_lemmas) in
       let put = takes.entered in
-      let fits = put.fits in
       record {
         finished = record {
           value = trie ∙ is ∙ ap leaf (inline_data rows (Some (standings.table false false false))
               (table_trie table.value) keyed put.apart (ap (put_rows rows) (sym empty) ∙ put.put));
           apart = put.apart;
-          fits = omega arith;
+          fits = omega (arith, put.fits);
         };
         named = tt;
         origins = origins ∙ inline_seen table start s

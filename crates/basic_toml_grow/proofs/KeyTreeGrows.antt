@@ -1,8 +1,7 @@
 -- A row is followed by a tree, one key after another.
-use Rattle.std.proofs.Common.{◌≡◌, inl, inr, ℕ, false, List, [], ◌∷◌, ◌++◌, refl, sym, ap, ◌∙◌, map, rules}
-use Rattle.std.proofs.Common.{Option, Some, None, option_map, Result, Ok, Err, subst}
+use Rattle.std.proofs.Common.{◌≡◌, inl, inr, ℕ, List, [], ◌∷◌, ◌++◌, refl, sym, ◌∙◌, map, rules}
+use Rattle.std.proofs.Common.{Option, Some, None, option_map, Result, Ok, Err, arith}
 use Rattle.std.specs.List.{slice_get}
-use Rattle.std.specs.Option.{option_or}
 use Rattle.std.specs.Str.{bytes_eq}
 use Rattle.std.proofs.Math.Path.{fun_ext}
 use Rattle.std.proofs.lemmas.Bool.{cases_Bool}
@@ -11,13 +10,12 @@ use Rattle.basic_toml_index.proofs.DistinctKeys.{bytes_eq-same}
 use Rattle.basic_toml_value.specs.Pairs.{value_at}
 use Rattle.basic_toml_grammar.specs.Sections.{KeyTexts}
 use Rattle.basic_toml_grow.specs.declared.crossed.KeyTree.{KeyTree, out-KeyTree, roll-KeyTree, the_lemmas}
-use Rattle.basic_toml_grow.specs.declared.crossed.KeyTree.TheOpen.{KeyTree-F}
 use Rattle.basic_toml_grow.specs.declared.crossed.Crossed.{Crossed}
 use Rattle.basic_toml_grow.specs.declared.crossed.Crossed.TheVariants.{Memory, At}
-use Rattle.basic_toml_grow.specs.KeyTree.{Ends, ends_below, ends_from, ends_of, no_key_tree, value_on, Follows}
+use Rattle.basic_toml_grow.specs.KeyTree.{ends_below, ends_from, ends_of, no_key_tree, value_on, Follows}
 use Rattle.basic_toml_grow.specs.KeyTree.{FollowsTo}
 use Rattle.basic_toml_grow.specs.Crossed.{and_end}
-use Rattle.basic_toml_grow.proofs.ValuesOnTheWay.{follows_so, or_nothing, row_ends, same_on}
+use Rattle.basic_toml_grow.proofs.ValuesOnTheWay.{follows_so, row_ends}
 use Rattle.basic_toml_value.specs.Growth.{with_value, values_of, FindsOrAdds}
 use Rattle.basic_toml_value.specs.declared.pairs.growth.Place.{Place}
 use Rattle.basic_toml_value.proofs.KeysChanged.{value_at-map, made_first, stood_or_fresh, put_at, kept_elsewhere}
@@ -27,12 +25,9 @@ pub key_tree_ends : (t : KeyTree)
     → ends_of t ≡ ends_from (out-KeyTree t).end (map (λ p. (p.0, ends_of p.1)) (out-KeyTree t).below)
 key_tree_ends t = search (rules, the_lemmas)
 
-rolled : (x : KeyTree-F KeyTree) → out-KeyTree (roll-KeyTree x) ≡ x
-rolled x = search (rules, the_lemmas)
-
 pub rolled_below : (end : Option ℕ) (below : List (List ℕ × KeyTree))
     → (out-KeyTree (roll-KeyTree (record { end = end; below = below }))).below ≡ below
-rolled_below end below = ap (λ x. x.below) (rolled (record { end = end; below = below }))
+rolled_below end below = search (rules, the_lemmas)
 
 -- another tree stands at a position of those below
 abbrev pub filled : KeyTree → List (List ℕ × KeyTree) → ℕ → KeyTree → KeyTree
@@ -40,22 +35,17 @@ filled t new i gone =
     let mid = roll-KeyTree (record { end = (out-KeyTree t).end; below = new }) in
     roll-KeyTree (record { end = (out-KeyTree mid).end; below = with_value (out-KeyTree mid).below i gone })
 
-filled_end : (t : KeyTree) (new : List (List ℕ × KeyTree)) (i : ℕ) (gone : KeyTree)
-    → (out-KeyTree (filled t new i gone)).end ≡ (out-KeyTree t).end
-filled_end t new i gone = search (rules, the_lemmas)
-
-filled_below : (t : KeyTree) (new : List (List ℕ × KeyTree)) (i : ℕ) (gone : KeyTree)
-    → (out-KeyTree (filled t new i gone)).below ≡ with_value new i gone
-filled_below t new i gone = search (rules, the_lemmas)
+filled_ends : (t : KeyTree) (new : List (List ℕ × KeyTree)) (i : ℕ) (gone : KeyTree) → ends_of (filled t new i gone)
+    ≡ ends_from (out-KeyTree t).end (map (λ p. (p.0, ends_of p.1)) (with_value new i gone))
+filled_ends t new i gone =
+    let is : out-KeyTree (filled t new i gone) ≡ record { end = (out-KeyTree t).end; below = with_value new i gone } =
+    search (rules, the_lemmas) in
+    rw (key_tree_ends (filled t new i gone), is) refl
 
 -- nothing ends where no row is followed yet
 pub nowhere : (path : KeyTexts) → ends_of no_key_tree path ≡ None
-nowhere path =
-    rw (key_tree_ends no_key_tree, rolled (record { end = None; below = [] })) (none path)
-  where
-    none : (path : KeyTexts) → ends_from None [] path ≡ None
-    none [] = refl
-    none (k ∷ path) = refl
+nowhere [] = search (rules, the_lemmas)
+nowhere (k ∷ path) = search (rules, the_lemmas)
 
 pub ends_at_key : (t : KeyTree) (k : List ℕ) (path : KeyTexts)
     → ends_of t (k ∷ path) ≡ ends_below (option_map ends_of (value_at (out-KeyTree t).below k)) path
@@ -66,30 +56,6 @@ pub met_here : (t : KeyTree) (end : ℕ) → (out-KeyTree t).end ≡ Some end �
     → value_on (ends_of t) (front ++ k ∷ []) ≡ Some end
 met_here t end is [] k = rw (key_tree_ends t, is) refl
 met_here t end is (l ∷ front) k = rw (key_tree_ends t, is) refl
-
--- the values on the way by a key at which none ends
-goes_deeper : (before there : Ends) (k : List ℕ) → before [] ≡ None → ((p : KeyTexts) → before (k ∷ p) ≡ there p)
-    → (path : KeyTexts) → value_on before (k ∷ path) ≡ value_on there path
-goes_deeper before there k none was path =
-    ap (λ o. option_or o (value_on (λ p. before (k ∷ p)) path)) none ∙ same_on (λ p. before (k ∷ p)) there was path
-
--- a row that goes on by a key
-module _ (before after there gone : Ends) (k : List ℕ) (at_none : before [] ≡ None) (still_none : after [] ≡ None)
-    (was : (p : KeyTexts) → before (k ∷ p) ≡ there p) (is : (p : KeyTexts) → after (k ∷ p) ≡ gone p)
-    (others : (l : List ℕ) (p : KeyTexts) → bytes_eq l k ≡ false → after (l ∷ p) ≡ before (l ∷ p)) where
-  pub follows_deeper : (path : KeyTexts) (start : ℕ) → Follows there gone path start
-      → Follows before after (k ∷ path) start
-  follows_deeper path start deeper =
-      subst (λ (e : Ends). Follows before e (k ∷ path) start) (sym (fun_ext ends))
-      (row_ends before (k ∷ path) start (goes_deeper before there k at_none was path ∙ deeper.free))
-    where
-      ends : (p : KeyTexts) → after p ≡ and_end before (k ∷ path) start p
-      ends [] = rw (still_none, at_none) refl
-      ends (l ∷ p) = elim (cases_Bool (bytes_eq l k)) [
-        | inl same ↦ rw ((bytes_eq-Decides l k).0 same, is p, was p, bytes_eq-same k)
-            (follows_so there path start gone deeper p)
-        | inr other ↦ rw (others l p other, other) (sym (or_nothing (before (l ∷ p))))
-      ]
 
 -- a tree where a key is entered
 module _ {gives : KeyTree → Type 0} (t there : KeyTree) (k : List ℕ) (new : List (List ℕ × KeyTree)) (p : Place)
@@ -108,35 +74,37 @@ module _ {gives : KeyTree → Type 0} (t there : KeyTree) (k : List ℕ) (new : 
     abbrev u : KeyTree
     u = filled t new p.position gone
 
-    at_none : ends_of t [] ≡ None
-    at_none = ap (λ e. e []) (key_tree_ends t) ∙ t_end
+    abbrev at : ℕ
+    at = p.position
 
-    still_none : ends_of u [] ≡ None
-    still_none = ap (λ e. e []) (key_tree_ends u) ∙ filled_end t new p.position gone ∙ t_end
+    -- the values on the way by the key, at which none ends
+    on_is : (path : KeyTexts) → value_on (ends_of t) (k ∷ path) ≡ value_on (ends_of there) path
+    on_is path =
+        let none : ends_of t [] ≡ None = rw (key_tree_ends t) t_end in
+        rw (none, fun_ext stood) refl
 
-    stands_now : (path : KeyTexts) → ends_of u (k ∷ path) ≡ ends_of gone path
-    stands_now path =
-        rw (
-          ends_at_key u k path,
-          filled_below t new p.position gone,
-          put_at k e.there (out-KeyTree t).below new p.position e.entered there stands gone,
-        )
-        refl
+    ends_behind : (l : List ℕ) (path : KeyTexts)
+        → ends_of u (l ∷ path) ≡ ends_below (option_map ends_of (value_at (with_value new at gone) l)) path
+    ends_behind l path = rw (filled_ends t new at gone, value_at-map ends_of (with_value new at gone) l) refl
 
-    elsewhere : (l : List ℕ) (path : KeyTexts) → bytes_eq l k ≡ false → ends_of u (l ∷ path) ≡ ends_of t (l ∷ path)
-    elsewhere l path other =
-        rw (
-          ends_at_key u l path,
-          filled_below t new p.position gone,
-          kept_elsewhere k e.there (out-KeyTree t).below new p.position e.entered there stands gone l other,
-        )
-        (sym (ends_at_key t l path))
+    -- where what ends there, what ends here
+    ends : (path : KeyTexts) (start : ℕ) → Follows (ends_of there) (ends_of gone) path start → (q : KeyTexts)
+        → ends_of u q ≡ and_end (ends_of t) (k ∷ path) start q
+    ends path start deeper [] = rw (filled_ends t new at gone, key_tree_ends t, t_end) refl
+    ends path start deeper (l ∷ q) = elim (cases_Bool (bytes_eq l k)) [
+      | inl same ↦
+          let put = put_at k e.there (out-KeyTree t).below new at e.entered there stands gone in
+          rw ((bytes_eq-Decides l k).0 same, ends_behind k q, put, stood q, bytes_eq-same k)
+          (follows_so (ends_of there) path start (ends_of gone) deeper q)
+      | inr other ↦
+          let kept = kept_elsewhere k e.there (out-KeyTree t).below new at e.entered there stands gone l other in
+          rw (ends_behind l q, kept, ends_at_key t l q, other) (grind arith)
+    ]
 
     -- what goes on below goes on here, and so does what goes wrong
     pub row_on : (path : KeyTexts) (start : ℕ) (r : Result (Unit {0}) Crossed) → FollowsTo there path start gone r
         → FollowsTo t (k ∷ path) start u r
     row_on path start (Ok x) goes =
-        follows_deeper (ends_of t) (ends_of u) (ends_of there) (ends_of gone) k at_none still_none stood stands_now
-        elsewhere path start goes
+        rw (fun_ext (ends path start goes)) (row_ends (ends_of t) (k ∷ path) start (on_is path ∙ goes.free))
     row_on path start (Err Memory) goes = tt
-    row_on path start (Err (At at)) goes = goes_deeper (ends_of t) (ends_of there) k at_none stood path ∙ goes
+    row_on path start (Err (At there)) goes = on_is path ∙ goes

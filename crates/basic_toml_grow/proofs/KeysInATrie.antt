@@ -1,9 +1,9 @@
 -- A key that is entered among keys with their values, and what stands at it in the trie of these.
-use Rattle.std.proofs.Common.{◌≡◌, ℕ, suc, zero, false, List, [], ◌∷◌, ◌++◌, refl, sym, take}
-use Rattle.std.proofs.Common.{inl, inr, ap, ◌∙◌, Option, option_map, Some, map}
+use Rattle.std.proofs.Common.{◌≡◌, ℕ, suc, zero, false, List, [], ◌∷◌, ◌++◌, refl, take, arith}
+use Rattle.std.proofs.Common.{inl, inr, ap, Option, option_map, Some, map}
 use Rattle.std.specs.List.{slice_get}
 use Rattle.std.specs.Str.{bytes_eq}
-use Rattle.std.proofs.lemmas.Bool.{cases_Bool, false≢true, or_parts}
+use Rattle.std.proofs.lemmas.Bool.{cases_Bool, or_parts}
 use Rattle.basic_toml_index.specs.Keys.{is_among}
 use Rattle.basic_toml_value.specs.Pairs.{keys_of, has_key}
 use Rattle.basic_toml_index.proofs.DistinctKeys.{bytes_eq-same, bytes_eq_other}
@@ -26,10 +26,8 @@ differs k l ks absent =
 pub with_same : {V : Type 0} (ps : List (List ℕ × V)) (i : ℕ) (v : V) → slice_get (values_of ps) i ≡ Some v
     → with_value ps i v ≡ ps
 with_same [] i v at = refl
-with_same (p ∷ ps) zero v at =
-    let same : p.1 ≡ v = cc in
-    ap (λ v. (p.0, v) ∷ ps) (sym same)
-with_same (p ∷ ps) (suc i) v at = ap (λ qs. p ∷ qs) (with_same ps i v at)
+with_same (p ∷ ps) zero v at = grind arith
+with_same (p ∷ ps) (suc i) v at = grind (arith, with_same ps i v)
 
 module _ {V : Type 0} (f : V → Trie) where
   -- keys with the tries of their values
@@ -79,10 +77,7 @@ module _ {V : Type 0} (f : V → Trie) where
   unfolding tries_of
   at_last [] zero k v absent at = (refl, λ g. refl)
   at_last [] (suc i) k v absent at = absurd (cc)
-  at_last (p ∷ ps) zero k v absent at =
-      let same : p.0 ≡ k = cc in
-      let other = differs k p.0 (keys_of ps) absent in
-      absurd (false≢true (sym other.0 ∙ ap (λ l. bytes_eq l k) same ∙ bytes_eq-same k))
+  at_last (p ∷ ps) zero k v absent at = absurd (grind (arith, bytes_eq-same k))
   at_last (p ∷ ps) (suc i) k v absent at =
       let other = differs k p.0 (keys_of ps) absent in
       behind k p ps (ps ++ (k, v) ∷ []) nothing i other.0 (at_last ps i k v other.1 at)

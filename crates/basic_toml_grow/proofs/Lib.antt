@@ -1,11 +1,9 @@
 pub mod ValuesOnTheWay
 pub mod RowsGoOn
 pub mod CrossedIsFault
-pub mod FirstGathered
 pub mod KeyTreeGrows
 pub mod RowIsFollowed
 pub mod RowsGetNoLonger
-pub mod RowsOfKeys
 pub mod HeadersNamed
 pub mod ObstaclesPassOn
 pub mod LatestInATrie

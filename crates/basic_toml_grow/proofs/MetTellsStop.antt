@@ -1,7 +1,6 @@
 -- What a row meets tells what stops it, key by key.
-use Rattle.std.proofs.Common.{rules, ◌≡◌, inl, inr, ℕ, ◌+◌, Bool, true, false, ◌||◌, List, [], ◌∷◌, ◌++◌, refl, sym}
+use Rattle.std.proofs.Common.{rules, ◌≡◌, ℕ, ◌+◌, Bool, true, false, ◌||◌, List, [], ◌∷◌, ◌++◌, refl, sym}
 use Rattle.std.proofs.Common.{ap, ◌∙◌, Option, Some, None, Err, length, take, map, Box, Global, arith}
-use Rattle.std.proofs.lemmas.Bool.{cases_Bool}
 use Rattle.std.proofs.lemmas.List.{append-nil, append_assoc, length-append, length-map}
 use Rattle.std.specs.List.{slice_get}
 use Rattle.basic_toml_value.specs.Data.{Data}
@@ -38,16 +37,7 @@ use Rattle.basic_toml_grow.proofs.TablesOpened.{table_item_trie}
 -- what stops one thing stops another
 pub told_on : (before : KeyTexts) (keys : List Key) (k : Key) (o p : Outcome Trie) (met : Met)
     → ((x : Stop) → o ≡ stops x → p ≡ stops x) → TellsStop before keys k o met → TellsStop before keys k p met
-told_on before keys k o p mets.Memory on told = tt
-told_on before keys k o p mets.Row on told = on (at_row (take 1 (before ++ texts keys)) k) told
-told_on before keys k o p (mets.Header left) on told = record {
-  front = told.front;
-  there = told.there;
-  rest = told.rest;
-  parts = told.parts;
-  count = told.count;
-  stop = on (at_row (before ++ texts told.front) told.there) told.stop;
-}
+told_on before keys k o p met on told = grind (arith, on)
 
 -- and a key further
 told_further : (before : KeyTexts) (first : Key) (keys : List Key) (k : Key) (o : Outcome Trie) (met : Met)
@@ -77,15 +67,8 @@ trie_stands (trie s v ts) made = λ before k d. record {
   rest = [];
   parts = refl;
   count = refl;
-  stop = go before k d s made ∙ ap (λ b. stops (at_row b k)) (sym (append-nil before));
+  stop = rw (append-nil before) (grind arith);
 }
-  where
-    go : (before : KeyTexts) (k : Key) (d : Data) (s : Option standings.Standing) → by_headers s ≡ true
-        → try_here (valued d) (last_stop before k) (trie s v ts) ≡ stops (at_row before k)
-    go before k d (Some (standings.array n)) made = refl
-    go before k d (Some (standings.table true n e)) made = refl
-    go before k d (Some (standings.table false true e)) made = refl
-    go before k d _ made = absurd (cc)
 
 pub headers_stand : (c : Child) (i : items.Item) → (out-Child c).item ≡ i
     → by_headers (standing (item_trie i)) ≡ true → TellsLast (child_trie c) (mets.Header 1)
@@ -108,21 +91,18 @@ module _ {gives : Child → Type 0} (before : Table) (k : List ℕ) (new : List 
   abbrev stood : Trie
   stood = trie_before p.is_new (child_trie there)
 
-  below_there : below (steps.key k) (table_trie before) ≡ stood
-  below_there = ap (below (steps.key k)) (table_entries_trie before)
-      ∙ (at_entered child_trie k (out-Table before).entries new p e there stands).0
-
   -- a change at the key that stops
   step_stops : (g : Trie → Outcome Trie) (x : Stop) → g stood ≡ stops x
       → try_step (steps.key k) g (table_trie before) ≡ stops x
   step_stops g x stop =
-      path_here (steps.key k ∷ []) g (λ t. stops x) (table_trie before) (ap g below_there ∙ stop)
+      let entries = ap (below (steps.key k)) (table_entries_trie before) in
+      let is = entries ∙ (at_entered child_trie k (out-Table before).entries new p e there stands).0 in
+      path_here (steps.key k ∷ []) g (λ t. stops x) (table_trie before) (ap g is ∙ stop)
       ∙ path_stop (steps.key k ∷ []) x (table_trie before)
 
   pub last_told : (met : Met) (d : Data) → TellsLast stood met → TellsRow [] k d (table_trie before) met
   last_told met d told = λ front offset.
-      told_on front [] (key_at offset k) (try_here (valued d) (last_stop front (key_at offset k)) stood)
-      (try_put_row front (key_at offset k ∷ []) d (table_trie before)) met
+      told_on front [] _ _ _ met
       (λ x stop. step_stops (λ t. try_here (valued d) (last_stop front (key_at offset k)) t) x stop)
       (told front (key_at offset k) d)
 
@@ -131,8 +111,7 @@ module _ {gives : Child → Type 0} (before : Table) (k : List ℕ) (new : List 
   row_told met at ks last d told = λ front offset.
       let first = key_at at k in
       let on : Trie → Outcome Trie = λ t. on_by_dots front first (ks ++ key_at offset last ∷ []) d t in
-      told_on front (first ∷ ks) (key_at offset last) (on stood)
-      (try_put_row front (first ∷ (ks ++ key_at offset last ∷ [])) d (table_trie before)) met
+      told_on front (first ∷ ks) _ _ _ met
       (λ x stop. try_row_on front first ks (key_at offset last) d (table_trie before) ∙ step_stops on x stop)
       (told front first offset)
 
@@ -143,18 +122,13 @@ extended_on ks last d t u met is told = λ before first offset.
     let all = ks ++ key_at offset last ∷ [] in
     let on : try_here dotted (λ m. at_row before first) t ≡ goes_on u =
     goes (try_here dotted (λ m. at_row before first) t) u (left_here dotted (λ m. at_row before first) t ∙ is) in
-    told_on before (first ∷ ks) (key_at offset last) (try_put_row (before ++ first.text ∷ []) all d u)
-    (on_by_dots before first all d t) met
+    told_on before (first ∷ ks) _ _ _ met
     (λ x stop. ap (λ o. and_on o (λ t. try_put_row (before ++ first.text ∷ []) all d t)) on ∙ stop)
-    (told_further before first ks (key_at offset last) (try_put_row (before ++ first.text ∷ []) all d u) met
-    (told (before ++ first.text ∷ []) offset))
+    (told_further before first ks (key_at offset last) _ met (told (before ++ first.text ∷ []) offset))
 
 stopped_here : (before : KeyTexts) (first : Key) (t : Trie) → mark_here dotted t ≡ None
     → try_here dotted (λ m. at_row before first) t ≡ stops (at_row before first)
-stopped_here before first (trie s v ts) none = elim (cases_Bool (standings.fits dotted s)) [
-  | inl fits ↦ let never = rw fits at none in absurd (cc)
-  | inr other ↦ rw other refl
-]
+stopped_here before first (trie s v ts) none = grind arith
 
 pub extended_refused : {now : Child} (parents : List code_keys.Key) (last : List ℕ) (child there : Child)
     → mark_here dotted (child_trie there) ≡ None
@@ -166,11 +140,7 @@ extended_refused parents last child there none = record {
     there = first;
     rest = map key_of parents ++ key_at offset last ∷ [];
     parts = refl;
-    count = omega (
-      arith,
-      length-append (map key_of parents) (key_at offset last ∷ []),
-      length-map parents key_of,
-    );
+    count = omega (arith, length-append {A = Key}, length-map parents key_of);
     stop = ap (λ o. and_on o (λ t. try_put_row (before ++ first.text ∷ [])
         (map key_of parents ++ key_at offset last ∷ []) d t)) (stopped_here before first (child_trie there) none)
         ∙ ap (λ b. stops (at_row b first)) (sym (append-nil before));
@@ -180,15 +150,12 @@ extended_refused parents last child there none = record {
 
 -- a table that dots extend
 abbrev pub dotted_fields : Table → Table-F items.Item Child Table
-dotted_fields t =
-    let o = out-Table t in
-    record { passed = o.passed; named = o.named; dotted = true; section = o.section; entries = o.entries }
+dotted_fields t = record (out-Table t) { dotted = true }
 
 -- dots extend a new table as they do nothing
 pub dotted_before : (is_new : Bool) (t : Trie) → (is_new ≡ true → t ≡ empty_table)
     → mark_here dotted (trie_before is_new t) ≡ mark_here dotted t
-dotted_before true t fresh = sym (ap (mark_here dotted) (fresh refl))
-dotted_before false t fresh = refl
+dotted_before is_new t fresh = grind arith
 
 pub extended_before : (is_new : Bool) (ks : List Key) (last : List ℕ) (d : Data) (t : Trie) (met : Met)
     → (is_new ≡ true → t ≡ empty_table) → TellsExtended ks last d t met
@@ -200,17 +167,9 @@ extended_before false ks last d t met fresh told = told
 pub dotted_table : (c : Child) (t : Box Table Global) (e : Table) → (out-Child c).item ≡ items.Table t → e ≡ t.value
     → (out-Table e).named ≡ false → mark_here dotted (child_trie c) ≡ Some (table_trie (roll-Table (dotted_fields e)))
 dotted_table c t e is same named =
-    rw (
-      child_item_trie c,
-      is,
-      table_item_trie t,
-      ← same,
-      table_entries_trie e,
-      table_entries_trie (roll-Table (dotted_fields e)),
-      out-roll-Table (dotted_fields e),
-      named,
-    )
-    refl
+    let u = dotted_fields e in
+    rw (child_item_trie c, is, table_item_trie t, ← same, table_entries_trie e)
+    (rw (table_entries_trie (roll-Table u), out-roll-Table u, named) refl)
 
 pub named_refuses : (c : Child) (t : Box Table Global) → (out-Child c).item ≡ items.Table t
     → (out-Table t.value).named ≡ true → mark_here dotted (child_trie c) ≡ None

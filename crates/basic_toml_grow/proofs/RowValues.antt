@@ -1,6 +1,6 @@
 -- One row with its value, put into a table of a level: what it comes to, and what keeps it out.
-use Rattle.std.proofs.Common.{◌≡◌, ◌≤◌, ◌<◌, ℕ, ◌+◌, ◌-◌, inl, inr, List, [], ◌∷◌, ◌++◌, length, map, Option, None}
-use Rattle.std.proofs.Common.{Ok, Err, Result, sym, ap, ap₂, ◌∙◌, arith, subst, option_map}
+use Rattle.std.proofs.Common.{◌≡◌, ◌≤◌, ℕ, ◌+◌, ◌-◌, List, [], ◌∷◌, ◌++◌, length, map, None}
+use Rattle.std.proofs.Common.{refl, Ok, Err, Result, sym, ap, ◌∙◌, arith, subst, option_map}
 use Rattle.std.specs.Option.{option_or}
 use Rattle.std.proofs.lemmas.List.{length-append, length-map, map-append}
 use Rattle.basic_toml_value.specs.Nesting.{nesting_limit}
@@ -15,20 +15,16 @@ use Rattle.basic_toml_read.specs.declared.section.Row.{Row, out-Row}
 use Rattle.basic_toml_read.proofs.NextRow.{lined_is}
 use Rattle.basic_toml_read.proofs.RowsHaveKeys.{every_row}
 use Rattle.basic_toml_grow.specs.declared.clash.Clash.{Clash}
-use Rattle.basic_toml_grow.specs.declared.clash.Clash.TheVariants.{Memory, Deep}
 use Rattle.basic_toml_grow.specs.declared.item.Child.{Child}
 use Rattle.basic_toml_grow.specs.declared.item.Table.{Table}
 use Rattle.basic_toml_grow.specs.declared.met.Met.{Met}
-use Rattle.basic_toml_grow.specs.declared.met.Met.TheVariants as mets
-use Rattle.basic_toml_grow.specs.Clash.{Obstacle}
 use Rattle.basic_toml_grow.specs.Item.{table_trie}
 use Rattle.basic_toml_grow.specs.Obstacles.{and_behind, held_obstacle, value_obstacle, rows_obstacle}
-use Rattle.basic_toml_grow.specs.Origins.{child_origins, dotted_of, row_origins, table_within, with_more}
-use Rattle.basic_toml_grow.specs.Rows.{AreKeptOut, Enters, IsUnfinished, met_reason, one_row, reason}
+use Rattle.basic_toml_grow.specs.Rows.{met_reason, one_row, reason}
 use Rattle.basic_toml_grow.specs.RowStops.{key_at, SaysMet, SaysHeld}
 use Rattle.basic_toml_grow.specs.Takes.{MakesChild, TakesRow, TakesRows}
 use Rattle.basic_toml_grow.proofs.NoObstacles.{value_free}
-use Rattle.basic_toml_grow.proofs.ObstaclesPassOn.{passed_on, behind_low, behind_high}
+use Rattle.basic_toml_grow.proofs.ObstaclesPassOn.{passed_on, behind_low}
 use Rattle.basic_toml_grow.proofs.RowsLeft.{clash_alone, origins_alone, then_same}
 
 module _ (parents : List keys.Key) (r : Row) (s level : ℕ) (old new : Table) where
@@ -53,48 +49,25 @@ module _ (parents : List keys.Key) (r : Row) (s level : ℕ) (old new : Table) w
       → MakesChild line.value line.start s inner made
   its_value made makes = subst (λ (l : Lined). MakesChild l.value l.start s inner made) (sym (lined_is r)) makes
 
-  -- its last key is too deep
-  pub deep_row : nesting_limit < inner → TakesRows (one_row parents r) s level old new (Err Deep)
-  deep_row high =
-      let last = last_level in record {
-        entered = omega arith;
-        named = behind_high (level + length ks - 1) _ (omega arith);
-        origins = tt;
-      }
-
   behind_level : inner ≤ nesting_limit
       → rows_obstacle level (one_row parents r) (table_trie old)
       ≡ option_or (option_map (held_obstacle ks) (value_obstacle inner line.value))
       (and_behind (try_put_row [] ks (finished line.value) (table_trie old)) (λ _. None))
-  behind_level low =
-      behind_low (level + length ks - 1) _ (omega (arith, last_level))
-      ∙ ap (λ (l : ℕ). option_or (option_map (held_obstacle ks) (value_obstacle l line.value))
-      (and_behind (try_put_row [] ks (finished line.value) (table_trie old)) (λ _. None))) (sym last_level)
+  behind_level low = rw (← last_level) (behind_low inner _ low)
 
   -- its value is in the way
-  value_kept_out : (clash held : Clash) → reason held ≡ reason clash → IsUnfinished line.value inner clash
-      → AreKeptOut (one_row parents r) level (table_trie old) held
-  value_kept_out clash Memory same u = tt
-  value_kept_out Deep Deep same u =
-      let high = rw last_level at u in omega arith
-  value_kept_out _ Deep same u = absurd (cc)
-  value_kept_out Memory _ same u = absurd (cc)
-  value_kept_out Deep _ same u = absurd (cc)
-  value_kept_out _ _ same u = inl (clash_alone ks line.start line.value ∙ u)
-
-  pub value_refused : (clash held : Clash) (last : List ℕ) → inner ≤ nesting_limit
-      → last ≡ key_text_bytes (out-Row r).key
-      → MakesChild (raw_of (out-Row r).value) (out-Row r).start s inner (Err clash) → reason held ≡ reason clash
+  pub value_refused : {clash held : Clash} {last : List ℕ}
+      → MakesChild (raw_of (out-Row r).value) (out-Row r).start s inner (Err clash) → inner ≤ nesting_limit
+      → last ≡ key_text_bytes (out-Row r).key → reason held ≡ reason clash
       → SaysHeld (map key_of parents ++ key_at (out-Row r).offset last ∷ []) clash held
       → TakesRows (one_row parents r) s level old new (Err held)
-  value_refused clash held last low is_last makes same says =
+  value_refused {clash} {held} {last} makes low is_last same says =
       let its = its_value (Err clash) makes in
-      let o = and_behind (try_put_row [] ks (finished line.value) (table_trie old)) (λ _. None) in
       let says_so = rw (key_is last is_last) at says in
       record {
-        entered = value_kept_out clash held same its.finished;
+        entered = grind (arith, last_level, clash_alone ks line.start line.value, same, its.finished);
         named = passed_on held (option_map (held_obstacle ks) (value_obstacle inner line.value)) _
-            (λ x is. behind_level low ∙ ap (λ (a : Option Obstacle). option_or a o) is)
+            (λ x is. rw (behind_level low, is) refl)
             (says_so (value_obstacle inner line.value) its.named);
         origins = tt;
       }
@@ -110,45 +83,32 @@ module _ (parents : List keys.Key) (r : Row) (s level : ℕ) (old new : Table) w
 
   put_one : put_rows (one_row parents r) (table_trie old)
       ≡ put_row (header_texts parents ++ line.key.text ∷ []) (finished line.value) (table_trie old)
-  put_one =
-      then_same (put_row (texts ks) (finished line.value) (table_trie old))
-      ∙ ap (λ ts. put_row ts (finished line.value) (table_trie old)) same_texts
+  put_one = rw (← same_texts) (then_same (put_row (texts ks) (finished line.value) (table_trie old)))
 
-  pub row_put : (child : Child) (last : List ℕ) → inner ≤ nesting_limit → last ≡ key_text_bytes (out-Row r).key
-      → MakesChild (raw_of (out-Row r).value) (out-Row r).start s inner (Ok child)
-      → TakesRow parents last child old new (Ok tt) → TakesRows (one_row parents r) s level old new (Ok tt)
-  row_put child last low is_last makes takes =
+  pub row_put : {child : Child} {last : List ℕ} → TakesRow parents last child old new (Ok tt)
+      → MakesChild (raw_of (out-Row r).value) (out-Row r).start s inner (Ok child) → inner ≤ nesting_limit
+      → last ≡ key_text_bytes (out-Row r).key → TakesRows (one_row parents r) s level old new (Ok tt)
+  row_put {child} {last} takes makes low is_last =
       let its = its_value (Ok child) makes in
       let put = its_put last child (Ok tt) is_last takes in
       let fits = rw last_level at its.finished.fits in
-      let at = last_level in
       record {
         entered = record {
           put = put_one ∙ put.entered (finished line.value) its.finished.value;
           apart = clash_alone ks line.start line.value ∙ its.finished.apart;
-          fits = omega arith;
+          fits = omega (arith, last_level);
         };
         named = tt;
-        origins = put.origins ∙ ap (with_more (table_within old))
-            (ap (λ ts. row_origins ts (dotted_of child) (child_origins child)) (sym same_texts)
-            ∙ ap₂ (row_origins (texts ks)) its.dotted its.origins ∙ sym (origins_alone ks line.start line.value s));
+        origins = rw (origins_alone ks line.start line.value s, same_texts, ← its.dotted, ← its.origins) put.origins;
       }
 
-  met_kept_out : (met : Met) (clash : Clash) → reason clash ≡ met_reason met
-      → Enters (put_rows (one_row parents r) (table_trie old)) (table_trie new) (Err met)
-      → AreKeptOut (one_row parents r) level (table_trie old) clash
-  met_kept_out met Memory same out = tt
-  met_kept_out mets.Memory _ same out = absurd (cc)
-  met_kept_out _ Deep same out = absurd (cc)
-  met_kept_out _ _ same out = inr out
-
-  pub row_met : (child : Child) (met : Met) (clash : Clash) (last k : List ℕ) → inner ≤ nesting_limit
-      → last ≡ key_text_bytes (out-Row r).key → k ≡ key_text_bytes (out-Row r).key
-      → MakesChild (raw_of (out-Row r).value) (out-Row r).start s inner (Ok child)
-      → TakesRow parents last child old new (Err met) → reason clash ≡ met_reason met
+  pub row_met : {child : Child} {met : Met} {clash : Clash} {last k : List ℕ}
+      → TakesRow parents last child old new (Err met)
+      → MakesChild (raw_of (out-Row r).value) (out-Row r).start s inner (Ok child) → inner ≤ nesting_limit
+      → last ≡ key_text_bytes (out-Row r).key → k ≡ key_text_bytes (out-Row r).key → reason clash ≡ met_reason met
       → SaysMet (map key_of parents) (key_at (out-Row r).offset k) met clash
       → TakesRows (one_row parents r) s level old new (Err clash)
-  row_met child met clash last k low is_last is_k makes takes same says =
+  row_met {child} {met} {clash} {last} {k} takes makes low is_last is_k same says =
       let its = its_value (Ok child) makes in
       let f = its.finished in
       let put = its_put last child (Err met) is_last takes in
@@ -156,12 +116,9 @@ module _ (parents : List keys.Key) (r : Row) (s level : ℕ) (old new : Table) w
       let free = value_free inner line.value (every_row r) f.apart f.fits in
       let says_so = rw (key_is k is_k) at says in
       record {
-        entered = met_kept_out met clash same (subst (λ p. Enters p (table_trie new) (Err met)) (sym put_one)
-            (put.entered (finished line.value) f.value));
+        entered = grind (arith, put_one, same, put.entered (finished line.value) f.value);
         named = passed_on clash (and_behind o (λ _. None)) _
-            (λ x is. behind_level low
-            ∙ ap (λ (a : Option Obstacle). option_or (option_map (held_obstacle ks) a) (and_behind o (λ _. None))) free
-            ∙ is)
+            (λ x is. rw (behind_level low, free) is)
             (says_so o (put.named (finished line.value) f.value [] line.key.offset));
         origins = tt;
       }

@@ -1,6 +1,6 @@
 -- A row put into a table: its first key, and what that key leads to.
 use Rattle.std.proofs.Common.{◌≡◌, ℕ, true, List, [], ◌∷◌, ◌++◌, ap, ◌∙◌, refl, sym, Option, Some, None, Result, Ok}
-use Rattle.std.proofs.Common.{Err, subst, option_map}
+use Rattle.std.proofs.Common.{Err, option_map, arith}
 use Rattle.std.specs.List.{slice_get}
 use Rattle.basic_toml_value.specs.Data.{Data}
 use Rattle.basic_toml_grammar.specs.Sections.{KeyTexts}
@@ -12,7 +12,6 @@ use Rattle.basic_toml_plain.specs.Tries.{by_keys}
 use Rattle.basic_toml_grow.specs.declared.item.Child.{Child}
 use Rattle.basic_toml_grow.specs.declared.item.Table.{Table, out-Table}
 use Rattle.basic_toml_grow.specs.declared.met.Met.{Met}
-use Rattle.basic_toml_grow.specs.declared.met.Met.TheVariants as mets
 use Rattle.basic_toml_grow.specs.Simple.{with_entries}
 use Rattle.basic_toml_grow.specs.Item.{child_trie, table_trie, trie_before}
 use Rattle.basic_toml_value.specs.Growth.{with_value, values_of, FindsOrAdds}
@@ -21,21 +20,18 @@ use Rattle.basic_toml_grow.specs.Origins.{beyond, child_origins, table_within, w
 use Rattle.basic_toml_grow.specs.Rows.{Enters}
 use Rattle.basic_toml_grow.specs.Takes.{TakesRow}
 use Rattle.basic_toml_grow.proofs.KeysInATrie.{tries_of, at_entered, with_mapped, with_same}
-use Rattle.basic_toml_grow.proofs.ItemTries.{table_entries_trie, entries_with, with_entries_trie}
+use Rattle.basic_toml_grow.proofs.ItemTries.{table_entries_trie, with_entries_trie}
 use Rattle.basic_toml_grow.proofs.LatestInATrie.{mapped_twice}
 use Rattle.basic_toml_grow.proofs.Origins.RowsPlaceOrigins.{origins_added}
 
 -- what is met
 pub is_met : (changed : Option Trie) (after : Trie) (met : Met) → changed ≡ None → Enters changed after (Err met)
-is_met changed after mets.Memory none = tt
-is_met changed after _ none = none
+is_met changed after met none = grind arith
 
 -- a change within another
 pub within : (changed whole : Option Trie) (inner outer : Trie) (f : Trie → Trie) (result : Result (Unit {0}) Met)
     → whole ≡ option_map f changed → outer ≡ f inner → Enters changed inner result → Enters whole outer result
-within changed whole inner outer f (Ok _) same is entered = same ∙ ap (option_map f) entered ∙ ap Some (sym is)
-within changed whole inner outer f (Err mets.Memory) same is entered = tt
-within changed whole inner outer f (Err _) same is entered = same ∙ ap (option_map f) entered
+within changed whole inner outer f result same is entered = grind arith
 
 -- a row with a key more before its last one
 pub row_on : (k : List ℕ) (ks : KeyTexts) (last : List ℕ) (d : Data) (t : Trie)
@@ -98,24 +94,7 @@ last_taken t k c new p e is_new =
           ∙ ap (λ c. with_more (table_within t) (beyond (steps.key k) (child_origins c))) made;
     }
 
--- what stands at a position of the entries of a table
-pub stands_in : {there : Child} (t : Table) (new : List (List ℕ × Child)) (position : ℕ)
-    → slice_get (values_of (out-Table (with_entries t new)).entries) position ≡ Some there
-    → slice_get (values_of new) position ≡ Some there
-stands_in t new position stands =
-    sym (ap (λ ps. slice_get (values_of ps) position) (entries_with t new)) ∙ stands
-
 -- a key that is entered by another name
 pub same_key_entered : {gives : Child → Type 0} {k l : List ℕ} {old new : List (List ℕ × Child)} {p : Place} → k ≡ l
     → FindsOrAdds gives k old new p → FindsOrAdds gives l old new p
-same_key_entered {gives = gives} {old = old} {new = new} {p = p} same entered =
-    subst (λ (k : List ℕ). FindsOrAdds gives k old new p) same entered
-
--- what was made for a new key
-pub made_there : {gives : Child → Type 0} {k : List ℕ} {old new : List (List ℕ × Child)} {p : Place} (there : Child)
-    (holds : Child → Type 0) → FindsOrAdds gives k old new p → slice_get (values_of new) p.position ≡ Some there
-    → ((c : Child) → gives c → holds c) → p.is_new ≡ true → holds there
-made_there there holds e stands given is_new =
-    let both : Some e.there ≡ Some there = sym e.stands ∙ stands in
-    let same : e.there ≡ there = cc in
-    subst holds same (given e.there (e.made is_new))
+same_key_entered same entered = rw same at entered

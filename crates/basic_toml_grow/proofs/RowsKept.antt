@@ -41,11 +41,8 @@ pub can_stay : {slice : List Row} {is_empty are_few : Bool} (rows : tables.Rows)
     → CanStay rows level
 can_stay rows level is empty slice_is few are =
     let parents = (tables.out-Rows rows).parents in
-    let none = nothing_left parents.items (grind (arith, is, empty, parents.ok.0)) in record {
-      none = none;
-      seen = no_parents_seen rows none;
-      few = ap (are_few_simple level) (sym slice_is) ∙ sym few ∙ are;
-    }
+    let none = nothing_left parents.items (grind (arith, is, empty, parents.ok.0)) in
+    record { none = none; seen = no_parents_seen rows none; few = grind (arith, slice_is, few, are) }
 
 -- rows that are taken out and put back
 abbrev pub back : tables.Rows → Vec Row Global → Vec Row Global → tables.Rows
@@ -102,12 +99,10 @@ stay_in_next {rows} {n} {level} {child} {is_new} old after stay low here was mor
     let at = (out-Child child).start in
     let z = (out-Child child).section in
     let trie = child_item_trie child ∙ ap item_trie was in
-    let counted : count (item_trie (items.Sections old)) ≡ length before =
-    ap count (sections_trie old) ∙ omega (
-      arith,
-      length-map old.value.0 (λ (t : SectionTable). rows_trie t.1),
-      length-append old.value.0 (old.value.1 ∷ []),
-    ) in record {
+    let many = length-map old.value.0 (λ (t : SectionTable). rows_trie t.1) in
+    let one_more = length-append old.value.0 (old.value.1 ∷ []) in
+    let counted : count (item_trie (items.Sections old)) ≡ length before = ap count (sections_trie old) ∙ omega arith in
+    record {
       entered = rw (stay.seen, here, trie, holding_trie child (items.Sections after))
           (added_in n level own after before more low stay.few (item_trie (items.Sections old))
           (ap (put_element (seen n own)) (sections_trie old) ∙ put_next (seen n own) (tries old.value.0) _

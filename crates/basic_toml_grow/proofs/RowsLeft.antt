@@ -1,7 +1,6 @@
 -- Rows that are left, and what all rows come to: what is put, what is met first, and where what they bring comes from.
-use Rattle.std.proofs.Common.{◌≡◌, ◌≤◌, ◌<◌, ℕ, false, true, ◌||◌, ◌&&◌, inl, inr, List, [], Option, Some, None, Ok}
-use Rattle.std.proofs.Common.{Err, Result, refl, sym, ap, ◌∙◌, arith, length, option_map, ◌+◌, ◌-◌}
-use Rattle.std.specs.Option.{option_or}
+use Rattle.std.proofs.Common.{◌≡◌, ℕ, false, true, ◌||◌, ◌&&◌, List, [], Option, Some, Ok}
+use Rattle.std.proofs.Common.{Err, Result, refl, sym, ap, ◌∙◌, arith, length, max, ◌+◌, ◌-◌}
 use Rattle.std.proofs.Math.Bool.{or-false}
 use Rattle.std.proofs.Math.Path.{fun_ext}
 use Rattle.std.proofs.lemmas.Bool.{and_parts, or_left, or_parts, or_right}
@@ -10,28 +9,22 @@ use Rattle.basic_toml_read.specs.declared.section.Rows as tables
 use Rattle.basic_toml_read.specs.SectionView.{rows_seen, rows_view}
 use Rattle.basic_toml_value.specs.Nesting.{nesting_limit}
 use Rattle.basic_toml_grammar.specs.Sections.{Key, texts, Raw, Rows, no_rows, row}
-use Rattle.basic_toml_grammar.specs.Steps.{steps_of}
-use Rattle.basic_toml_grammar.specs.RowClash.{rows_clash, value_clashes, any_overlaps}
+use Rattle.basic_toml_grammar.specs.RowClash.{rows_clash, value_clashes}
 use Rattle.basic_toml_grammar.specs.Levels.{rows_level}
 use Rattle.basic_toml_grammar.specs.Entering.{and_then, rows_keyed, keyed_within, has_key, value_keyed}
 use Rattle.basic_toml_grammar.specs.Mentions.{finished}
-use Rattle.basic_toml_grammar.specs.Stops.{Outcome, goes_on, stops}
-use Rattle.basic_toml_grammar.specs.Trie.{Trie, put_row, put_rows}
-use Rattle.basic_toml_grammar.specs.TrieStops.{try_put_row}
+use Rattle.basic_toml_grammar.specs.Trie.{put_row, put_rows}
 use Rattle.basic_toml_grammar.proofs.Tries.RowsThatOverlapAreRefused.{values_clash, put_apart}
-use Rattle.basic_toml_grow.specs.Clash.{Obstacle}
 use Rattle.basic_toml_grow.specs.declared.clash.Clash.{Clash}
-use Rattle.basic_toml_grow.specs.declared.clash.Clash.TheVariants.{Memory, Deep}
 use Rattle.basic_toml_grow.specs.declared.item.Table.{Table}
 use Rattle.basic_toml_grow.specs.Item.{table_trie}
-use Rattle.basic_toml_grow.specs.Obstacles.{above, and_behind, held_obstacle, value_obstacle, rows_obstacle}
-use Rattle.basic_toml_grow.specs.Origins.{Origin, Origins, Within, no_origins, or_else, row_origins, rows_origins}
+use Rattle.basic_toml_grow.specs.Obstacles.{rows_obstacle}
+use Rattle.basic_toml_grow.specs.Origins.{Origins, Within, no_origins, or_else, row_origins, rows_origins}
 use Rattle.basic_toml_grow.specs.Origins.{table_origin, table_within, value_origins, with_more}
-use Rattle.basic_toml_grow.specs.Rows.{AreKeptOut, EntersRows}
+use Rattle.basic_toml_grow.specs.Rows.{EntersRows}
 use Rattle.basic_toml_grow.specs.Takes.{TakesRows}
 use Rattle.basic_toml_grow.proofs.NoObstacles.{row_behind, value_free}
 use Rattle.basic_toml_grow.proofs.ObstaclesPassOn.{passed_on}
-use Rattle.basic_toml_grow.proofs.Origins.OriginsSeen.{or_none}
 use Rattle.basic_toml_grow.proofs.Origins.RowsPlaceOrigins.{within}
 
 -- Putting the rows that are left into the table as it is, is putting all rows into the table as it was.
@@ -41,34 +34,19 @@ pub record AreLeft (s level : ℕ) (whole : Rows) (before : Table) (left : Rows)
   pub come : with_more (table_within before) (rows_origins s whole) ≡ with_more (table_within now) (rows_origins s left)
   pub clash : rows_clash left ≡ true → rows_clash whole ≡ true
   pub values : values_clash whole ≡ values_clash left
-  pub fits : rows_level level left ≤ nesting_limit → rows_level level whole ≤ nesting_limit
-  pub deep : nesting_limit < rows_level level left → nesting_limit < rows_level level whole
-
--- at first all rows are left
-pub all_left : (s level : ℕ) (rows : Rows) (t : Table) → AreLeft s level rows t rows t
-all_left s level rows t = record {
-  put = refl;
-  met = refl;
-  come = refl;
-  clash = λ c. c;
-  values = refl;
-  fits = λ f. f;
-  deep = λ d. d;
-}
+  pub high : max nesting_limit (rows_level level whole) ≡ max nesting_limit (rows_level level left)
 
 -- the values of rows that do not clash do not clash
 values_apart : (rows : Rows) → rows_clash rows ≡ false → values_clash rows ≡ false
 values_apart no_rows apart = refl
 values_apart (row ks at v rows) apart =
-    let parts = or_parts (any_overlaps (steps_of (texts ks)) rows || value_clashes v) (rows_clash rows) apart in
-    let own = or_parts (any_overlaps (steps_of (texts ks)) rows) (value_clashes v) parts.0 in
-    rw own.1 (values_apart rows parts.1)
+    grind (arith, values_apart rows, or_parts)
 
 -- what the rows that are left come to, all come to
-pub left_taken : {s level : ℕ} {whole left : Rows} {before now : Table} (after : Table) (r : Result (Unit {0}) Clash)
+pub left_taken : {s level : ℕ} {whole left : Rows} {before now after : Table} {r : Result (Unit {0}) Clash}
     → AreLeft s level whole before left now → rows_keyed whole ≡ true → TakesRows left s level now after r
     → TakesRows whole s level before after r
-left_taken {s} {level} {whole} {left} {before} {now} after r are keyed takes =
+left_taken {s} {level} {whole} {left} {before} {now} {after} {r} are keyed takes =
     record { entered = go r takes.entered; named = rw are.met takes.named; origins = rw are.come takes.origins }
   where
     go : (r : Result (Unit {0}) Clash) → EntersRows left level (table_trie now) (table_trie after) r
@@ -78,19 +56,16 @@ left_taken {s} {level} {whole} {left} {before} {now} after r are keyed takes =
           put = put;
           apart = put_apart whole (table_trie before) (table_trie after) keyed
               (are.values ∙ values_apart left entered.apart) put;
-          fits = are.fits entered.fits;
+          fits = omega (arith, are.high, entered.fits);
         }
-    go (Err Memory) kept = tt
-    go (Err Deep) kept = are.deep kept
-    go (Err _) (inl c) = inl (are.clash c)
-    go (Err _) (inr none) = inr (are.put ∙ none)
+    go (Err clash) kept = grind (arith, are.put, are.high, are.clash)
 
 -- where no row is, nothing is put
 else_none : (f : Origins) → or_else f no_origins ≡ f
-else_none f = fun_ext (λ p. or_none (f p))
+else_none f = fun_ext (λ p. grind arith)
 
-pub none_taken : (s level : ℕ) (t : Table) → TakesRows no_rows s level t t (Ok tt)
-none_taken s level t = record {
+pub none_taken : {s level : ℕ} {t : Table} → TakesRows no_rows s level t t (Ok tt)
+none_taken {t = t} = record {
   entered = record { put = refl; apart = refl; fits = omega arith };
   named = tt;
   origins = let w = table_within t in sym (ap (within w.made w.section) (else_none w.below));
@@ -102,15 +77,10 @@ pub no_parents_seen : (rows : tables.Rows) → (tables.out-Rows rows).parents.it
 no_parents_seen rows none = ap (λ (ks : List keys.Key). rows_seen ks (tables.out-Rows rows).rows.items) none
 
 pub then_same : {A : Type 0} (o : Option A) → and_then o (λ x. Some x) ≡ o
-then_same None = refl
-then_same (Some x) = refl
-
-option_assoc : (a b c : Option Origin) → option_or (option_or a b) c ≡ option_or a (option_or b c)
-option_assoc None b c = refl
-option_assoc (Some o) b c = refl
+then_same o = grind arith
 
 more_more : (w : Within) (f g : Origins) → with_more (with_more w f) g ≡ with_more w (or_else f g)
-more_more w f g = ap (within w.made w.section) (fun_ext (λ p. option_assoc (w.below p) (f p) (g p)))
+more_more w f g = ap (within w.made w.section) (fun_ext (λ p. grind arith))
 
 -- a row alone, and what it brings
 module _ (ks : List Key) (at : ℕ) (v : Raw) where
@@ -125,40 +95,15 @@ module _ (ks : List Key) (at : ℕ) (v : Raw) where
   origins_alone s = else_none (row_origins (texts ks) (table_origin false at s) (value_origins s at v))
 
 -- and with others after it
-module _ (s level : ℕ) (ks : List Key) (at : ℕ) (v : Raw) (rest : Rows) (now after : Table) where
-  -- what it meets first, it meets first before others
-  one_first : (x : Obstacle) → rows_obstacle level (alone ks at v) (table_trie now) ≡ Some x
-      → rows_obstacle level (row ks at v rest) (table_trie now) ≡ Some x
-  one_first x is =
-      let last = level + length ks - 1 in
-      go (above last) (option_map (held_obstacle ks) (value_obstacle last v))
-      (try_put_row [] ks (finished v) (table_trie now)) is
-    where
-      go : (a b : Option Obstacle) (o : Outcome Trie)
-          → option_or a (option_or b (and_behind o (λ t. None))) ≡ Some x
-          → option_or a (option_or b (and_behind o (λ t. rows_obstacle level rest t))) ≡ Some x
-      go (Some y) b o is = is
-      go None (Some y) o is = is
-      go None None (stops y) is = is
-      go None None (goes_on u) is = absurd (cc)
-
+module _ {s level : ℕ} {ks : List Key} {at : ℕ} {v : Raw} {rest : Rows} {now after : Table} where
   -- a row that is kept out keeps all rows out
-  pub row_refused : (clash : Clash) → TakesRows (alone ks at v) s level now after (Err clash)
+  pub row_refused : {clash : Clash} → TakesRows (alone ks at v) s level now after (Err clash)
       → TakesRows (row ks at v rest) s level now after (Err clash)
-  row_refused clash one = record {
-    entered = go clash one.entered;
-    named = passed_on clash (rows_obstacle level (alone ks at v) (table_trie now)) _ one_first one.named;
+  row_refused {clash} one = record {
+    entered = grind (arith, or_left, or_right, clash_alone ks at v, then_same, one.entered);
+    named = passed_on clash (rows_obstacle level (alone ks at v) (table_trie now)) _ (λ x is. grind arith) one.named;
     origins = tt;
   }
-    where
-      go : (clash : Clash) → AreKeptOut (alone ks at v) level (table_trie now) clash
-          → AreKeptOut (row ks at v rest) level (table_trie now) clash
-      go Memory kept = tt
-      go Deep kept = omega arith
-      go _ (inl c) = inl (or_left _ _ (or_right (any_overlaps (steps_of (texts ks)) rest) (value_clashes v)
-          (sym (clash_alone ks at v) ∙ c)))
-      go _ (inr none) = inr (ap (λ o. and_then o (λ t. put_rows rest t))
-          (sym (then_same (put_row (texts ks) (finished v) (table_trie now))) ∙ none))
 
   -- after a row that is in the table the rows after it are left
   pub row_taken : {whole : Rows} {before : Table} → AreLeft s level whole before (row ks at v rest) now
@@ -175,11 +120,9 @@ module _ (s level : ℕ) (ks : List Key) (at : ℕ) (v : Raw) (rest : Rows) (now
         put = left.put ∙ ap (λ o. and_then o (λ t. put_rows rest t)) is_put;
         met = left.met ∙ row_behind level ks at v rest (table_trie now) (table_trie after) (omega (arith, fits)) value
             is_put;
-        come = left.come ∙ sym (more_more (table_within now) _ (rows_origins s rest))
-            ∙ ap (λ w. with_more w (rows_origins s rest))
-            (sym (one.origins ∙ ap (with_more (table_within now)) (origins_alone ks at v s)));
+        come = left.come ∙ rw (one.origins, origins_alone ks at v s)
+            (sym (more_more (table_within now) _ (rows_origins s rest)));
         clash = λ c. left.clash (or_right _ _ c);
         values = left.values ∙ ap (λ b. b || values_clash rest) free;
-        fits = λ f. left.fits (omega (arith, fits, f));
-        deep = λ d. left.deep (omega (arith, d));
+        high = omega (arith, left.high, fits);
       }

@@ -1,23 +1,21 @@
 -- Simple rows, put into a table one after another: they become its entries.
-use Rattle.std.proofs.Common.{◌≡◌, ◌==◌, ◌≤◌, ℕ, ◌+◌, Bool, true, false, List, [], ◌∷◌, ◌++◌, length, map, Some, Ok}
-use Rattle.std.proofs.Common.{arith, take, drop, refl, sym, ap, ◌∙◌, subst, rules, append_assoc, slice_get}
-use Rattle.std.specs.Str.{bytes_eq}
-use Rattle.std.proofs.lemmas.Bool.{and_parts, false≢true, false_from_ne_true, or_right}
+use Rattle.std.proofs.Common.{◌≡◌, ◌≤◌, ℕ, ◌+◌, true, false, List, [], ◌∷◌, ◌++◌, length, map, Some, Ok}
+use Rattle.std.proofs.Common.{arith, take, drop, refl, sym, ap, ◌∙◌, rules, append_assoc, slice_get}
+use Rattle.std.proofs.lemmas.Bool.{and_parts}
 use Rattle.std.proofs.lemmas.List.{append-nil, length-map, take_at, map-append, take-append-drop, take-map}
 use Rattle.std.proofs.lemmas.List.Folds.{list_all-append}
 use Rattle.std.proofs.lemmas.Slice.Eq.{bytes_eq-Decides}
 use Rattle.basic_toml_index.specs.Keys.{is_among, are_distinct}
-use Rattle.basic_toml_index.proofs.DistinctKeys.{bytes_eq-same, is_among-push, slice_get-last}
+use Rattle.basic_toml_index.proofs.DistinctKeys.{is_among-insert, slice_get-last}
 use Rattle.basic_toml_value.specs.declared.pairs.Pair.{Pair}
 use Rattle.basic_toml_value.specs.Entries.{seen, texts_of}
-use Rattle.basic_toml_value.specs.Growth.{FindsOrAdds, values_of}
+use Rattle.basic_toml_value.specs.Growth.{FindsOrAdds, new_place, values_of}
 use Rattle.basic_toml_value.specs.Nesting.{nesting_limit}
 use Rattle.basic_toml_value.specs.Pairs.{keys_of, has_key}
 use Rattle.basic_toml_value.proofs.KeysSeen.{keys_of-seen}
 use Rattle.basic_toml_grammar.specs.Mentions.{finished}
 use Rattle.basic_toml_grammar.specs.Sections as spec
-use Rattle.basic_toml_read.specs.SectionView.{lined_of, raw_of, rows_seen}
-use Rattle.basic_toml_read.specs.declared.section.Key as keys
+use Rattle.basic_toml_read.specs.SectionView.{raw_of, rows_seen}
 use Rattle.basic_toml_read.specs.declared.section.Rows as tables
 use Rattle.basic_toml_read.specs.declared.section.Raw as raws
 use Rattle.basic_toml_read.specs.declared.section.Raw.{Raw, out-Raw, roll-Raw, roll-out-Raw}
@@ -29,8 +27,7 @@ use Rattle.basic_toml_read.proofs.RowsHaveKeys.{one_has_keys, rows_are_keyed}
 use Rattle.basic_toml_plain.specs.Plain.{key_of, is_plain, are_simple, are_all_plain}
 use Rattle.basic_toml_plain.specs.Tries.{leaf}
 use Rattle.basic_toml_plain.proofs.PlainValues.{plain_value, value_lower}
-use Rattle.basic_toml_plain.proofs.SimpleKeys.{first_is_simple, first_plain, others_plain, simple_from_plain}
-use Rattle.basic_toml_plain.proofs.WhatIsLeft.{nothing_left}
+use Rattle.basic_toml_plain.proofs.SimpleKeys.{first_plain, keys_differ, others_plain, simple_are_plain}
 use Rattle.basic_toml_grow.specs.declared.item.Item.{Item, the_lemmas}
 use Rattle.basic_toml_grow.specs.declared.item.Child.{Child}
 use Rattle.basic_toml_grow.specs.declared.item.Table.{Table, out-Table}
@@ -42,7 +39,7 @@ use Rattle.basic_toml_grow.specs.Takes.{MakesChild, TakesRows}
 use Rattle.basic_toml_grow.proofs.ItemTries.{entries_with, with_entries_twice}
 use Rattle.basic_toml_grow.proofs.RowValues.{row_put}
 use Rattle.basic_toml_grow.proofs.RowsEntered.{last_taken}
-use Rattle.basic_toml_grow.proofs.RowsLeft.{AreLeft, all_left, left_taken, none_taken, row_taken}
+use Rattle.basic_toml_grow.proofs.RowsLeft.{AreLeft, left_taken, none_taken, row_taken}
 
 -- a plain value, as the item that it is kept as
 pub record IsKept (i : Item) (v : spec.Raw) : Type 0 where
@@ -52,24 +49,18 @@ pub record IsKept (i : Item) (v : spec.Raw) : Type 0 where
 kept_is : (x : Raw-F Raw Element Row tables.Rows) (l : ℕ) → is_plain (roll-Raw x) l ≡ true
     → IsKept (kept x) (raw_of (roll-Raw x))
 kept_is (Raw-F.Dotted rs) l plain =
-    let not_plain : is_plain (roll-Raw (Raw-F.Dotted rs)) l ≡ false = search (rules, raws.the_lemmas) in
-    absurd (false≢true (sym not_plain ∙ plain))
+    let not_plain : is_plain (roll-Raw (Raw-F.Dotted rs)) l ≡ false = search (rules, raws.the_lemmas) in absurd (cc)
 kept_is _ l plain = record {
   trie = search (rules, the_lemmas, raws.the_lemmas);
   origins = λ at s. search (rules, the_lemmas, raws.the_lemmas);
 }
 
-item_is : (v : Raw) (l : ℕ) → is_plain v l ≡ true → IsKept (item_of v) (raw_of v)
-item_is v l plain =
-    let same : roll-Raw (out-Raw v) ≡ v = roll-out-Raw v in
-    subst (λ w. IsKept (item_of v) (raw_of w)) same (kept_is (out-Raw v) l (ap (λ v. is_plain v l) same ∙ plain))
-
 -- and as a child
-pub plain_made : (v : Raw) (start s level : ℕ) (c : Child) → is_plain v level ≡ true
+pub plain_made : {start s level : ℕ} {c : Child} (v : Raw) → is_plain v level ≡ true
     → child_trie c ≡ item_trie (item_of v) → child_origins c ≡ item_origins (item_of v) start s
     → dotted_of c ≡ table_origin false start s → MakesChild (raw_of v) start s level (Ok c)
-plain_made v start s level c plain trie origins dotted =
-    let is = item_is v level plain in
+plain_made {start} {s} {level} v plain trie origins dotted =
+    let is = rw (roll-out-Raw v) at (kept_is (out-Raw v) level (rw (roll-out-Raw v) plain)) in
     let at = plain_value v level plain in
     record {
       finished = record { value = trie ∙ is.trie; apart = at.apart; fits = at.fits };
@@ -81,26 +72,23 @@ plain_made v start s level c plain trie origins dotted =
 pub child_made : (s : ℕ) (r : Row) (level : ℕ) → is_plain (out-Row r).value level ≡ true
     → MakesChild (raw_of (out-Row r).value) (out-Row r).start s level (Ok (child_of s r))
 child_made s r level plain =
-    plain_made (out-Row r).value (out-Row r).start s level (child_of s r) plain (search (rules, the_lemmas))
-    (search (rules, the_lemmas)) (search (rules, the_lemmas))
+    plain_made (out-Row r).value plain (search (rules, the_lemmas)) (search (rules, the_lemmas))
+    (search (rules, the_lemmas))
 
 -- plain rows are so at the lowest level too
 pub all_lower : (l : ℕ) (rows : List Row) → are_all_plain l rows ≡ true → are_all_plain 0 rows ≡ true
 all_lower l [] plain = refl
 all_lower l (r ∷ rs) plain =
-    rw (
-      value_lower (out-Row r).value l (first_plain l r rs plain),
-      all_lower l rs (others_plain l r rs plain),
-    )
-    refl
-
-pub entry_keys : (s : ℕ) (rows : List Row) → keys_of (entries_of s rows) ≡ map key_of rows
-entry_keys s [] = refl
-entry_keys s (r ∷ rs) = ap (λ ks. key_of r ∷ ks) (entry_keys s rs)
+    let own = value_lower (out-Row r).value l (first_plain l r rs plain) in
+    rw (own, all_lower l rs (others_plain l r rs plain)) refl
 
 pub entry_texts : (s : ℕ) (rows : List Row) (entries : List (Pair Child)) → seen entries ≡ entries_of s rows
     → texts_of entries ≡ map key_of rows
-entry_texts s rows entries is = sym (keys_of-seen entries) ∙ ap keys_of is ∙ entry_keys s rows
+entry_texts s rows entries is = rw (← keys_of-seen entries, is) (keys rows)
+  where
+    keys : (rows : List Row) → keys_of (entries_of s rows) ≡ map key_of rows
+    keys [] = refl
+    keys (r ∷ rs) = rw (keys rs) refl
 
 -- a value that is put last
 last_value : (ps : List (List ℕ × Child)) (k : List ℕ) (c : Child)
@@ -114,7 +102,7 @@ keys_more : (ps : List (List ℕ × Child)) (k : List ℕ) (c : Child)
 keys_more ps k c = map-append (λ (p : List ℕ × Child). p.0) ps ((k, c) ∷ [])
 
 adds : (ps : List (List ℕ × Child)) (k : List ℕ) (c : Child) → has_key ps k ≡ false
-    → FindsOrAdds (λ d. d ≡ c) k ps (ps ++ (k, c) ∷ []) (record { position = length ps; is_new = true })
+    → FindsOrAdds (λ d. d ≡ c) k ps (ps ++ (k, c) ∷ []) (new_place (length ps))
 adds ps k c absent = record {
   there = c;
   stands = last_value ps k c;
@@ -131,80 +119,56 @@ adds ps k c absent = record {
 pub own_entries : (t : Table) → with_entries t (out-Table t).entries ≡ t
 own_entries t = search (rules, the_lemmas)
 
-pub no_entries : (t u : Table) (b : Bool) → u ≡ t → b ≡ (length (out-Table u).entries == 0) → b ≡ true
-    → (out-Table t).entries ≡ []
-no_entries t u b same is empty =
-    ap (λ t. (out-Table t).entries) (sym same) ∙ nothing_left (out-Table u).entries (grind (arith, is, empty))
-
--- a simple row in a table that has not its key
-module _ (s level : ℕ) (low : level ≤ nesting_limit) (t : Table) (r : Row)
-    (plain : is_plain (out-Row r).value level ≡ true) (absent : has_key (out-Table t).entries (key_of r) ≡ false) where
-  row_in : TakesRows (one_row [] r) s level t (with_entries t ((out-Table t).entries ++ entry_of s r ∷ [])) (Ok tt)
-  row_in =
-      let own = (out-Table t).entries in
-      let c = child_of s r in
-      let here : level + length {A = keys.Key} [] ≡ level = omega arith in
-      row_put [] r s level t _ c (key_of r) (omega arith) refl
-      (child_made s r _ (ap (is_plain (out-Row r).value) here ∙ plain))
-      (last_taken t (key_of r) c (own ++ entry_of s r ∷ []) (record { position = length own; is_new = true })
-      (adds own (key_of r) c absent) refl)
-
--- keys that are none of those entered
-abbrev AreApart : List (List ℕ × Child) → List Row → Type 0
-AreApart ps rows = (k : List ℕ) → is_among (map key_of rows) k ≡ true → has_key ps k ≡ false
-
-first_apart : (ps : List (List ℕ × Child)) (r : Row) (rs : List Row) → AreApart ps (r ∷ rs)
-    → has_key ps (key_of r) ≡ false
-first_apart ps r rs apart = apart (key_of r) (rw (bytes_eq-same (key_of r)) refl)
-
-others_apart : (s : ℕ) (ps : List (List ℕ × Child)) (r : Row) (rs : List Row) → AreApart ps (r ∷ rs)
-    → is_among (map key_of rs) (key_of r) ≡ false → AreApart (ps ++ entry_of s r ∷ []) rs
-others_apart s ps r rs apart differs k among =
-    let other = false_from_ne_true (bytes_eq k (key_of r)) (λ e. false≢true (sym differs
-    ∙ ap (is_among (map key_of rs)) (sym ((bytes_eq-Decides k (key_of r)).0 e)) ∙ among)) in
-    rw (
-      keys_more ps (key_of r) (child_of s r),
-      is_among-push (keys_of ps) (key_of r) k,
-      apart k (or_right (bytes_eq k (key_of r)) (is_among (map key_of rs) k) among),
-    )
-    other
+-- a key is none of those before it, which all differ
+key_is_new : (ks : List (List ℕ)) (k : List ℕ) (ls : List (List ℕ)) → are_distinct (ks ++ k ∷ ls) ≡ true
+    → is_among ks k ≡ false
+key_is_new [] k ls distinct = refl
+key_is_new (l ∷ ks) k ls distinct =
+    grind (arith, is_among-insert ks ls k l, bytes_eq-Decides k l, bytes_eq-Decides l k, key_is_new ks k ls, distinct)
 
 -- the first of the rows that are left, put into a table that has none of their keys
 module _ (s level : ℕ) (low : level ≤ nesting_limit) (all more : List Row) (was : Table) where
-  rest_in : (rest : List Row) (t : Table) → are_simple level rest ≡ true → AreApart (out-Table t).entries rest
+  rest_in : (rest : List Row) (t : Table) → are_all_plain level rest ≡ true
+      → are_distinct (keys_of (out-Table t).entries ++ map key_of rest) ≡ true
       → AreLeft s level (rows_seen [] all) was (rows_seen [] (rest ++ more)) t
       → AreLeft s level (rows_seen [] all) was (rows_seen [] more)
       (with_entries t ((out-Table t).entries ++ entries_of s rest))
-  rest_in [] t simple apart here =
-      rw (append-nil (out-Table t).entries, own_entries t) here
-  rest_in (r ∷ rs) t simple apart here =
-      let first = first_is_simple level r rs simple in
+  rest_in [] t plain distinct here = rw (append-nil (out-Table t).entries, own_entries t) here
+  rest_in (r ∷ rs) t plain distinct here =
       let own = (out-Table t).entries in
-      let after = with_entries t (own ++ entry_of s r ∷ []) in
-      let entries : (out-Table after).entries ≡ own ++ entry_of s r ∷ [] = entries_with t (own ++ entry_of s r ∷ []) in
+      let entry = entry_of s r ∷ [] in
+      let c = child_of s r in
+      let key = key_of r in
+      let same_level : level + 0 ≡ level = omega arith in
+      let after = with_entries t (own ++ entry) in
+      let entries : (out-Table after).entries ≡ own ++ entry = entries_with t (own ++ entry) in
       let same : with_entries after ((out-Table after).entries ++ entries_of s rs)
       ≡ with_entries t (own ++ entries_of s (r ∷ rs)) =
-      rw (with_entries_twice t (own ++ entry_of s r ∷ []), entries, append_assoc) refl in
-      rw (← same) (rest_in rs after first.others (rw entries (others_apart s own r rs apart first.apart))
-      (row_taken s level ((lined_of r).key ∷ []) (lined_of r).start (lined_of r).value (rows_seen [] (rs ++ more)) t
-      after (rw (lone_row r (rs ++ more)) at here) (one_has_keys [] r)
-      (row_in s level low t r first.plain (first_apart own r rs apart))))
+      rw (with_entries_twice t (own ++ entry), entries, append_assoc) refl in
+      let one : TakesRows (one_row [] r) s level t after (Ok tt) =
+      row_put [] r _ _ _ _ (last_taken t key c (own ++ entry) (new_place (length own))
+      (adds own key c (key_is_new (keys_of own) key (map key_of rs) distinct)) refl)
+      (child_made s r _ (rw same_level (first_plain level r rs plain))) (omega arith) refl in
+      rw (← same) (rest_in rs after (others_plain level r rs plain)
+      (rw (entries, keys_more own key c, append_assoc) distinct)
+      (row_taken (rw (lone_row r (rs ++ more)) at here) (one_has_keys [] r) one))
 
 -- the first of all rows, put into a table without entries: the others are left
 first_rows_in : (s level : ℕ) → level ≤ nesting_limit → (t : Table) → (out-Table t).entries ≡ []
-    → (all rows more : List Row) → all ≡ rows ++ more → are_simple level rows ≡ true
+    → (all rows more : List Row) → all ≡ rows ++ more → are_all_plain level rows ≡ true
+    → are_distinct (map key_of rows) ≡ true
     → AreLeft s level (rows_seen [] all) t (rows_seen [] more) (with_entries t (entries_of s rows))
-first_rows_in s level low t none all rows more parts simple =
-    rw none at (rest_in s level low all more t rows t simple (λ k among. ap (λ ps. has_key ps k) none)
-    (rw parts (all_left s level (rows_seen [] (rows ++ more)) t)))
+first_rows_in s level low t none all rows more parts plain distinct =
+    rw none at (rest_in s level low all more t rows t plain (rw none distinct) (rw parts (search rules)))
 
 -- and all of them
 pub rows_in : (s level : ℕ) → level ≤ nesting_limit → (t : Table) → (out-Table t).entries ≡ [] → (rows : List Row)
     → are_simple level rows ≡ true
     → TakesRows (rows_seen [] rows) s level t (with_entries t (entries_of s rows)) (Ok tt)
 rows_in s level low t none rows simple =
-    left_taken _ _ (first_rows_in s level low t none rows rows [] (sym (append-nil rows)) simple)
-    (rows_are_keyed [] rows) (none_taken s level _)
+    left_taken (first_rows_in s level low t none rows rows [] (sym (append-nil rows))
+    (simple_are_plain level rows simple) (keys_differ level rows simple)) (rows_are_keyed [] rows)
+    none_taken
 
 -- plain rows, of which the first, whose keys differ, are the entries of a table that had none
 pub first_in : {s level : ℕ} {t now : Table} (rows more : List Row) (count : ℕ) → level ≤ nesting_limit
@@ -212,10 +176,8 @@ pub first_in : {s level : ℕ} {t now : Table} (rows more : List Row) (count : �
     → are_distinct (take count (map key_of rows)) ≡ true → now ≡ with_entries t (entries_of s (take count rows))
     → more ≡ drop count rows → AreLeft s level (rows_seen [] rows) t (rows_seen [] more) now
 first_in {s} {level} {t} {now} rows more count low none plain distinct is_now is_more =
-    let parts : rows ≡ take count rows ++ more =
-    sym (take-append-drop count rows) ∙ ap (λ rs. take count rows ++ rs) (sym is_more) in
+    let parts : rows ≡ take count rows ++ more = rw is_more (sym (take-append-drop count rows)) in
     let plain_first = (and_parts _ _ (sym (list_all-append (λ (r : Row). is_plain (out-Row r).value level)
     (take count rows) more) ∙ ap (are_all_plain level) (sym parts) ∙ plain)).0 in
-    let simple = simple_from_plain level (take count rows) plain_first
-    (ap are_distinct (sym (take-map key_of count rows)) ∙ distinct) in
-    rw is_now (first_rows_in s level low t none rows (take count rows) more parts simple)
+    rw is_now (first_rows_in s level low t none rows (take count rows) more parts plain_first
+    (ap are_distinct (sym (take-map key_of count rows)) ∙ distinct))

@@ -1,6 +1,4 @@
-use Rattle.std.proofs.Common.{◌-◌, ap, sym, ◌∙◌, length, map, string_bytes, take}
-use Rattle.basic_toml_grammar.specs.NamedClash.{nth_key}
-use Rattle.basic_toml_read.specs.SectionView.{key_of, header_texts}
+use Rattle.std.proofs.Common.{◌∙◌, map, string_bytes}
 use Rattle.basic_toml_grow.proofs.HeadersNamed.{header_fault_is}
 use Rattle.basic_toml_grow.proofs.clash.header_key.Goals as goal
 
@@ -11,6 +9,4 @@ returns c =
     c.within.ensures
     ∙ header_fault_is c.args.section.now c.args.left n (string_bytes c.in_ok-key.key) c.in_ok-key.offset
     (map string_bytes c.in_ok-path.path.items)
-    (c.saturating_sub-number.ensures ∙ ap (λ l. length l - c.args.left) keys)
-    (ap (λ l. nth_key n (map key_of l)) (sym keys) ∙ c.in_ok-key.ensures)
-    (c.in_ok-path.ensures ∙ ap (λ l. header_texts (take n l)) keys)
+    (rw keys at c.saturating_sub-number.ensures) (rw keys at c.in_ok-key.ensures) (rw keys at c.in_ok-path.ensures)

@@ -1,13 +1,15 @@
-use Rattle.std.proofs.Common.{◌≡◌, take, None}
-use Rattle.basic_toml_read.specs.SectionView.{lined_of, placed_of}
-use Rattle.basic_toml_grow.specs.Crossed.{crossed_of}
-use Rattle.basic_toml_grow.proofs.FirstGathered.{first_in}
+use Rattle.std.proofs.Common.{◌≡◌, List, drop, map}
+use Rattle.basic_toml_grammar.specs.Sections.{Key}
+use Rattle.basic_toml_read.specs.SectionView.{elements_view, lined_of, rows_from, rows_seen}
+use Rattle.basic_toml_grow.specs.Crossed.{crossed_among, crossed_within}
 use Rattle.basic_toml_grow.proofs.crossed.+looking.Given as goal
 
--- nothing is crossed in the values passed
+-- what is crossed in the values of all is crossed in those that are left
 abbrev pub invariant-look_through-loop-row : goal.invariant-look_through-loop-row
-invariant-look_through-loop-row l = first_in (λ r. crossed_of (lined_of r).value) (take l.row-index l.rows) ≡ None
+invariant-look_through-loop-row l =
+    (parents : List Key) × (crossed_within (rows_seen l.fn.parents l.rows)
+    ≡ crossed_within (rows_from parents (map lined_of (drop l.row-index l.rows))))
 
 abbrev pub invariant-look_among-loop-element : goal.invariant-look_among-loop-element
 invariant-look_among-loop-element l =
-    first_in (λ e. crossed_of (placed_of e).value) (take l.element-index l.elements) ≡ None
+    crossed_among (elements_view l.elements) ≡ crossed_among (elements_view (drop l.element-index l.elements))

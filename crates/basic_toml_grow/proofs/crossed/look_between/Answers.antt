@@ -1,44 +1,25 @@
-use Rattle.std.proofs.Common.{◌+◌, arith, drop}
-use Rattle.std.proofs.lemmas.List.{drop_all}
+use Rattle.std.proofs.Common.{arith}
 use Rattle.std.proofs.lemmas.Result.{err_from_is_err_and}
 use Rattle.basic_toml_read.specs.declared.section.Row.{out-Row}
-use Rattle.basic_toml_read.specs.SectionView.{rows_seen}
-use Rattle.basic_toml_read.proofs.NextRow.{next_row, parents_left}
-use Rattle.basic_toml_grow.proofs.RowIsFollowed.{none_passed, gone_on, stopped}
+use Rattle.basic_toml_read.proofs.NextRow.{parents_left}
+use Rattle.basic_toml_grow.proofs.RowIsFollowed.{gone_on, stopped}
 use Rattle.basic_toml_grow.proofs.crossed.look_between.Goals as goal
-
-pub loop-row-init : goal.loop-row-init
-loop-row-init c = record {
-  within = omega arith;
-  passed = none_passed (rows_seen c.args.parents.now c.args.rows.now) c.new-tree.result c.new-tree.ensures;
-}
 
 pub returns-in_err-follow : goal.returns-in_err-follow
 returns-in_err-follow c =
     let p = err_from_is_err_and c.from_residual.result c.from_residual.ensures.1 in
-    let r = c.row-item.result in
-    let left = c.loop-row.left.now in
-    let rest = drop (c.loop-row.row-index + 1) c.args.rows.now in
-    rw (p.1, p.2)
-    (stopped left c.own_parents-own.result.now r rest c.as_str.result.now c.loop-row.tree c.own_parents-own.ensures
-    c.as_str.ensures.value
-    (rw (next_row left c.args.rows.now c.loop-row.row-index r c.loop-row-test.true c.row-item.is) at
-    c.loop-row.invariant.passed) c.follow.new.tree c.in_err-follow.field-0.0 c.in_err-follow.ensures)
+    rw (p.1, p.2) (stopped _ _ c.args.rows.now _ c.row-item.result _ c.loop-row.tree c.loop-row-test.true c.row-item.is
+    c.own_parents-own.ensures c.as_str.ensures.value c.loop-row.invariant.passed c.follow.new.tree
+    c.in_err-follow.field-0.0 c.in_err-follow.ensures)
 
 pub loop-row-preserved : goal.loop-row-preserved
 loop-row-preserved c =
-    let r = c.row-item.result in
+    let row = c.row-item in
     let left = c.loop-row.left.now in
-    let rest = drop (c.loop-row.row-index + 1) c.args.rows.now in
-    let own = parents_left (out-Row r).parents left c.own_parents-own.result.now c.own_parents-own.ensures in
+    let own = parents_left (out-Row row.result).parents left c.own_parents-own.result.now c.own_parents-own.ensures in
     record {
       within = omega (arith, own.0, c.loop-row.invariant.within);
-      passed = rw (← own.1) (gone_on left c.own_parents-own.result.now r rest c.as_str.result.now c.loop-row.tree
-          c.own_parents-own.ensures c.as_str.ensures.value
-          (rw (next_row left c.args.rows.now c.loop-row.row-index r c.loop-row-test.true c.row-item.is) at
-          c.loop-row.invariant.passed) c.follow.new.tree c.in_ok-follow.ensures);
+      passed = rw (← own.1) (gone_on _ _ c.args.rows.now _ row.result _ c.loop-row.tree c.loop-row-test.true row.is
+          c.own_parents-own.ensures c.as_str.ensures.value c.loop-row.invariant.passed c.follow.new.tree
+          c.in_ok-follow.ensures);
     }
-
-pub returns : goal.returns
-returns c =
-    (rw (drop_all c.loop-row.row-index c.args.rows.now c.loop-row-test.false) at c.loop-row.invariant.passed).crossed

@@ -1,24 +1,16 @@
-use Rattle.std.proofs.Common.{◌≡◌, refl, string_bytes, map, length}
+use Rattle.std.proofs.Common.{refl, length}
+use Rattle.std.proofs.lemmas.Result.{IfOk-weaker}
 use Rattle.std.proofs.lemmas.Option.{slice_get_read}
-use Rattle.basic_toml_grammar.specs.Stops.{at_row}
-use Rattle.basic_toml_read.specs.SectionView.{key_of}
-use Rattle.basic_toml_grow.specs.RowStops.{key_at, SaysMet}
-use Rattle.basic_toml_grow.proofs.ClashSaysMet.{if_stop, same_row, key_said}
+use Rattle.basic_toml_grow.proofs.ClashSaysMet.{key_said}
 use Rattle.basic_toml_grow.proofs.row_clash.row_clash.Goals as goal
 
 pub returns-in-Some-clause-named : goal.returns-in-Some-clause-named
 returns-in-Some-clause-named c =
     let keys = c.args.keys.now in
-    let last = key_at c.args.offset c.args.last.now in
     let number = c.saturating_sub-number.result in
-    let path = map string_bytes c.in_ok-path-in-Header.path.items in
     let key = c.in-Some.key.now in
-    let there : at_row path (key_at key.offset c.as_str.result.now) ≡ at_row path (key_of key) =
-    same_row refl refl c.as_str.ensures.value in
-    let said = rw there at c.row-in-Some.ensures in
-    if_stop c.row-in-Some.result (at_row path (key_of key))
-    (λ clash. SaysMet (map key_of keys) last c.args.met clash)
+    IfOk-weaker c.row-in-Some.result _ _
     (λ clash is. rw c.in-Header.is (key_said keys c.args.offset c.args.last.now c.in-Header.left number
-    c.saturating_sub-number.ensures path c.in_ok-path-in-Header.ensures clash key
+    c.saturating_sub-number.ensures _ c.in_ok-path-in-Header.ensures clash key
     (slice_get_read keys (length keys) number key refl c.in-Some.ensures.lookup.3.0 c.in-Some.ensures.lookup.1)
-    is)) said
+    is)) (rw c.as_str.ensures.value at c.row-in-Some.ensures)

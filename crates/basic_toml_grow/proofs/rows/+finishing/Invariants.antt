@@ -34,13 +34,13 @@ decreases-children_of l = 7 * (nesting_limit - l.level) + 2
 abbrev pub invariant-enter_rows-loop-row : goal.invariant-enter_rows-loop-row
 invariant-enter_rows-loop-row l = record {
   within : length l.left ≤ length l.parents;
-  left : AreLeft l.section l.level (rows_seen l.parents l.initial.row-iterator) l.initial.table
+  left : AreLeft l.section l.level (rows_seen l.parents l.fn.rows) l.initial.table
       (rows_seen l.left l.row-iterator) l.table;
 }
 
 abbrev pub invariant-children_of-loop-element : goal.invariant-children_of-loop-element
 invariant-children_of-loop-element l = record {
-  left : ElementsAreLeft l.section l.level (elements_view l.initial.element-iterator) l.children.items
+  left : ElementsAreLeft l.section l.level (elements_view l.fn.elements.items) l.children.items
       (elements_view l.element-iterator);
   room : vec_len l.children + length l.element-iterator ≤ vec_capacity l.children;
 }

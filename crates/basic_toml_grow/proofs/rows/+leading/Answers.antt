@@ -8,9 +8,9 @@ use denote.Hole.Carrier.{out}
 use Rattle.basic_toml_value.specs.Growth.{with_value, values_of}
 use Rattle.basic_toml_grow.specs.Item.{child_trie, table_trie, empty_table, trie_before}
 use Rattle.basic_toml_grow.specs.Simple.{with_entries}
-use Rattle.basic_toml_grow.proofs.ItemTries.{table_child_trie, with_entries_put}
-use Rattle.basic_toml_grow.proofs.RowsEntered.{within, made_there, same_key_entered}
-use Rattle.basic_toml_grow.proofs.RowsEntered.{changed_table, row_on, stands_in, step_made, table_after}
+use Rattle.basic_toml_grow.proofs.ItemTries.{entries_with, table_child_trie, with_entries_put}
+use Rattle.basic_toml_grow.proofs.RowsEntered.{same_key_entered, within}
+use Rattle.basic_toml_grow.proofs.RowsEntered.{changed_table, row_on, step_made, table_after}
 use Rattle.basic_toml_grow.specs.Rows.{Enters}
 use Rattle.basic_toml_read.specs.KeyText.{key_text_bytes}
 use Rattle.basic_toml_read.specs.SectionView.{header_texts, key_of}
@@ -27,16 +27,16 @@ use Rattle.basic_toml_grow.proofs.rows.+leading.Goals as goal
 -- what stands at the first key: a table that was made for it, where it is new
 stands_there : (t : ℕ) (c : goal.enter_dotted-After-table-1 t)
     → slice_get (values_of c.enter_again.new.self) c.in_ok-place.place.position ≡ Some c.value_mut-there.result.now
-stands_there t c =
-    stands_in c.args.table.now c.enter_again.new.self c.in_ok-place.place.position c.value_mut-there.ensures.value
+stands_there t c = rw (entries_with c.args.table.now c.enter_again.new.self) at c.value_mut-there.ensures.value
 
 fresh : (t : ℕ) (c : goal.enter_dotted-After-table-1 t) → c.in_ok-place.place.is_new ≡ true
     → (child_trie c.value_mut-there.result.now ≡ empty_table)
     × (child_origins c.value_mut-there.result.now ≡ entry (dotted_of c.args.child) no_origins)
 fresh t c new =
-    made_there c.value_mut-there.result.now
-    (λ d. (child_trie d ≡ empty_table) × (child_origins d ≡ entry (dotted_of c.args.child) no_origins))
-    c.in_ok-place.ensures.entered (stands_there t c) (λ d made. (search rules, search rules)) new
+    let e = c.in_ok-place.ensures.entered in
+    let made = e.made new in
+    let same : e.there ≡ c.value_mut-there.result.now = cc (e.stands, stands_there t c) in
+    rw (← same) (search rules, search rules)
 
 pub enter_dotted-returns : goal.enter_dotted-returns
 enter_dotted-returns t c =
@@ -60,16 +60,12 @@ enter_dotted-returns t c =
       entered = λ d is_leaf.
           let g : Trie → Option Trie = λ t. and_then (mark_here dotted t) (λ t. put_row (rest ++ last ∷ []) d t) in
           let alike : g (trie_before p.is_new (child_trie there)) ≡ g (child_trie there) =
-          ap (λ m. and_then m (λ t. put_row (rest ++ last ∷ []) d t))
-          (dotted_before p.is_new (child_trie there) (λ new. (fresh t c new).0)) in
+          rw (dotted_before p.is_new (child_trie there) (λ new. (fresh t c new).0)) refl in
           let on = row_on key rest last d (table_trie table) in
           let put = changed_table table key new p entered there stands in
-          within (g (child_trie there))
-          (put_row (header_texts (row ∷ c.args.rest.now) ++ last ∷ []) d (table_trie table)) (child_trie now)
-          (table_trie (with_entries mid after)) put c.extend.result
-          (on ∙ step_made table key new p entered there stands g ∙ ap (option_map put) alike)
-          (ap table_trie same ∙ table_after table key new p entered there stands now)
-          (c.extend.ensures.entered d is_leaf);
+          let made = on ∙ step_made table key new p entered there stands g ∙ ap (option_map put) alike in
+          let is = ap table_trie same ∙ table_after table key new p entered there stands now in
+          within _ _ _ _ put _ made is (c.extend.ensures.entered d is_leaf);
       named = IfErr-weaker c.extend.result _ _
           (λ met told. λ d is_leaf.
           row_told table key new p entered there stands met row.offset (map key_of c.args.rest.now) last d
@@ -88,8 +84,7 @@ unfolding out-Item out
 extend-returns-then-deref t c =
     let same : c.deref.result.now ≡ c.in-Table.table.value = c.deref.ensures ∙ rw c.in-Table.is refl in
     extended_refused c.args.keys.now c.args.last.now c.args.child c.args.there.now
-    (named_refuses c.args.there.now c.in-Table.table c.in-Table.is
-    (ap (λ t. (out-Table t).named) (sym same) ∙ c.if-deref.true))
+    (named_refuses c.args.there.now c.in-Table.table c.in-Table.is (rw same at c.if-deref.true))
 
 pub extend-returns-in_default : goal.extend-returns-in_default
 extend-returns-in_default t c =
@@ -106,7 +101,7 @@ extend-returns-else-deref t c =
     let was : c.deref.result.now ≡ old.value = c.deref.ensures ∙ rw c.in-Table.is refl in
     let keys = header_texts c.args.keys.now ++ c.args.last.now ∷ [] in
     let on = dotted_table there old now c.in-Table.is same
-    (ap (λ t. (out-Table t).named) (same ∙ sym was) ∙ c.if-deref.false)
+    (rw (same ∙ sym was) c.if-deref.false)
     ∙ ap (λ t. Some (table_trie t)) (sym c.deref_mut-in-Table.ensures.value) in
     let within_is = ap table_within c.deref_mut-in-Table.ensures.value ∙ dotted_within now ∙ ap table_within same in
     record {

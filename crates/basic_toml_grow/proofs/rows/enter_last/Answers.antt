@@ -1,9 +1,9 @@
-use Rattle.std.proofs.Common.{[], ◌∷◌, ap, ◌∙◌}
 use Rattle.basic_toml_grammar.specs.Marks.{valued}
-use Rattle.basic_toml_grammar.specs.Trie.{mark_here, put_row}
-use Rattle.basic_toml_grow.specs.Item.{child_trie, table_trie, trie_before}
+use Rattle.basic_toml_grammar.specs.Trie.{mark_here}
+use Rattle.basic_toml_grow.specs.Item.{table_trie}
 use Rattle.basic_toml_grow.specs.Simple.{with_entries}
-use Rattle.basic_toml_grow.proofs.RowsEntered.{is_met, last_taken, stands_in, step_refused}
+use Rattle.basic_toml_grow.proofs.ItemTries.{entries_with}
+use Rattle.basic_toml_grow.proofs.RowsEntered.{is_met, last_taken, step_refused}
 use Rattle.basic_toml_grow.proofs.MetTellsStop.{last_told}
 use Rattle.basic_toml_grow.proofs.rows.enter_last.Goals as goal
 
@@ -19,13 +19,12 @@ returns c =
     let new = c.enter_value.new.self in
     let p = c.in_ok-place.place in
     let there = c.value.result.now in
-    let stands = stands_in table new p.position c.value.ensures in
-    let before = ap (λ b. trie_before b (child_trie there)) c.if-place.false in record {
-      entered = λ d is_leaf. is_met (put_row (last ∷ []) d (table_trie table)) (table_trie (with_entries table new))
-          c.what_is_met.result
+    let stands = rw (entries_with table new) at c.value.ensures in
+    let is_old = c.if-place.false in record {
+      entered = λ d is_leaf. is_met _ (table_trie (with_entries table new)) _
           (step_refused table last new p c.in_ok-place.ensures.entered there stands (λ t. mark_here (valued d) t)
-          (ap (mark_here (valued d)) before ∙ c.what_is_met.ensures.stands d));
+          (rw is_old (c.what_is_met.ensures.stands d)));
       named = λ d is_leaf. last_told table last new p c.in_ok-place.ensures.entered there stands c.what_is_met.result d
-          (rw before c.what_is_met.ensures.named);
+          (rw is_old c.what_is_met.ensures.named);
       origins = tt;
     }

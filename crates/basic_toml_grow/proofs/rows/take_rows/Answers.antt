@@ -1,8 +1,10 @@
-use Rattle.std.proofs.Common.{refl, rules, arith}
+use Rattle.std.proofs.Common.{rules, arith}
 use Rattle.basic_toml_read.specs.declared.section.Raw as raws
 use Rattle.basic_toml_plain.proofs.SimpleKeys.{keys_differ, few_are_plain, few_are_simple}
+use Rattle.basic_toml_plain.proofs.WhatIsLeft.{nothing_left}
+use Rattle.basic_toml_grow.specs.declared.item.Table.{out-Table}
 use Rattle.basic_toml_grow.proofs.RowsKept.{CanStay, can_stay}
-use Rattle.basic_toml_grow.proofs.SimpleRows.{no_entries, all_lower, rows_in}
+use Rattle.basic_toml_grow.proofs.SimpleRows.{all_lower, rows_in}
 use Rattle.basic_toml_grow.proofs.rows.take_rows.Goals as goal
 use Rattle.basic_toml_grow.proofs.rows.take_rows.Goals.{Then-are_few_simple}
 
@@ -27,8 +29,8 @@ returns-then-are_few_simple c =
     let table = c.args.table.now in
     let level = c.args.level in
     let stay = stay_seen (goal.at.returns-then-are_few_simple c).Then-are_few_simple in
-    let none = no_entries table table c.is_empty-then-is_empty-3.result refl c.is_empty-then-is_empty-3.ensures
-    c.if-is_empty-4.true in
+    let empty = c.is_empty-then-is_empty-3.ensures in
+    let none = nothing_left (out-Table table).entries (grind (arith, empty, c.if-is_empty-4.true)) in
     record {
       takes = rw (stay.seen, c.in_ok-with_rows.ensures.after)
           (rows_in c.args.section level (omega arith) table none _ (few_are_simple level _ stay.few));

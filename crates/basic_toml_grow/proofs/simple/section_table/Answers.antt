@@ -1,8 +1,5 @@
-use Rattle.std.proofs.Common.{ap, ◌∙◌}
-use Rattle.basic_toml_plain.specs.Plain.{are_all_plain}
 use Rattle.basic_toml_plain.proofs.SimpleKeys.{few_are_plain}
 use Rattle.basic_toml_grow.proofs.simple.section_table.Goals as goal
 
 pub first_table-requires-clause-plain : goal.first_table-requires-clause-plain
-first_table-requires-clause-plain c =
-    ap (are_all_plain 0) c.drain.ensures ∙ few_are_plain 0 c.args.rows.items c.requires
+first_table-requires-clause-plain c = rw c.drain.ensures (few_are_plain 0 c.args.rows.items c.requires)
