@@ -3,7 +3,7 @@ use Rattle.std.proofs.Common.{◌≡◌, ℕ, suc, ◌+◌, ◌<◌, ◌≤◌, 
 use Rattle.std.proofs.Common.{arith, map, length, take, drop, get_or, None, Result, Ok, Err, IsErrAnd, Vec, Global}
 use Rattle.std.specs.Vec.{vec_len}
 use Rattle.std.proofs.lemmas.Bool.{eqb-true, eqb-false}
-use Rattle.std.proofs.lemmas.List.{map-append, take_more, take_all, length-map, length-take-le}
+use Rattle.std.proofs.lemmas.List.{map-append, map_more, take_all, length-map, length-take-le}
 use Rattle.std.proofs.Math.Seq.{split_at}
 use Rattle.basic_toml_grammar.specs.Entering.{all_keyed}
 use Rattle.basic_toml_grammar.specs.Faults.{Fault}
@@ -45,15 +45,10 @@ module _ {old now : List code.Section} {n : ℕ} {headers : List (ℕ × List Ke
   was = sym (is ∙ goes.left n s (omega arith))
 
   split : map section_of old ≡ map section_of (take n old) ++ section_of s ∷ map section_of (drop (suc n) old)
-  split =
-      ap (map section_of) (split_at old n s (omega (arith, goes.count))
-      ∙ ap (λ s. take n old ++ s ∷ drop (suc n) old) was)
-      ∙ map-append section_of (take n old) (s ∷ drop (suc n) old)
+  split = ap (map section_of) (split_at old n s (omega (arith, goes.count))) ∙ rw (map-append, was) refl
 
   more : map section_of (take (n + 1) old) ≡ map section_of (take n old) ++ section_of s ∷ []
-  more =
-      ap (map section_of) (take_more old n s (omega (arith, goes.count)) ∙ ap (λ s. take n old ++ s ∷ []) was)
-      ∙ map-append section_of (take n old) (s ∷ [])
+  more = rw (map_more section_of old n s (omega (arith, goes.count)), was) refl
 
   counted_headers : n ≡ length headers
   counted_headers =

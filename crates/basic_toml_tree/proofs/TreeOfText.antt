@@ -2,7 +2,6 @@
 use Rattle.std.proofs.Common.{◌≡◌, inl, inr, ℕ, List, [], ◌∷◌, ◌++◌, refl, ap, sym, ◌∙◌, append_assoc, Bool, true}
 use Rattle.std.proofs.Common.{false, Option, MatchOption, Some, None, Result, Ok, Err, arith}
 use Rattle.std.specs.Option.{option_or}
-use Rattle.std.specs.Prelude.{IsUtf8}
 use Rattle.std.specs.Result.{IsErrAnd}
 use Rattle.std.proofs.lemmas.List.{append_cancel_left}
 use Rattle.basic_toml_tokens.specs.Text.{folded}
@@ -13,18 +12,15 @@ use Rattle.basic_toml_grammar.proofs.LawsHold.{keyed}
 use Rattle.basic_toml_grammar.proofs.Grammar.ReaderIsSound.{list_read}
 use Rattle.basic_toml_grammar.proofs.Nesting.LevelsAreWithinDepth.{list_keys}
 use Rattle.basic_toml_explain.specs.Error.{want_of_memory}
-use Rattle.basic_toml_explain.specs.Explain.{ExplainsWhy}
 use Rattle.basic_toml_explain.specs.Stop.{no_memory}
-use Rattle.basic_toml_explain.specs.declared.stop.Stop.{Stop}
 use Rattle.basic_toml_read.specs.declared.reader.SectionReader.{SectionReader}
 use Rattle.basic_toml_read.specs.declared.section.Section as code
 use Rattle.basic_toml_read.specs.SectionView.{section_of}
-use Rattle.basic_toml_read.specs.SectionsAnswer.{IsRefused, memory}
+use Rattle.basic_toml_read.specs.SectionsAnswer.{memory}
 use Rattle.basic_toml_read.specs.FrontOf.{sections_of}
-use Rattle.basic_toml_read.specs.SectionsRead.{onto, IsBehind, SoFar, IsReady, IsStop, IsList, ReadsOn}
+use Rattle.basic_toml_read.specs.SectionsRead.{onto, IsBehind, SoFar, IsReady, IsList, ReadsOn}
 use Rattle.basic_toml_read.specs.declared.reader.Place.{Place}
 use Rattle.basic_toml_read.specs.declared.reader.Place.TheVariants.{Start, Behind}
-use Rattle.basic_toml_read.proofs.ListIsAnswered.{stop_answered}
 use Rattle.basic_toml_read.proofs.SectionsHandedOut.{refused_after}
 use Rattle.basic_toml_grow.specs.declared.clash.Clash.{Clash}
 use Rattle.basic_toml_grow.specs.Clash.{NamesClash, NamesObstacle}
@@ -66,10 +62,6 @@ rest_goes_on {old} {reader} {list} {found} s rest so_far {here} is = record {
 -- how it ends
 list_of : (bytes : List ℕ) (list : List Section) → IsList bytes list → IsListOf bytes list
 list_of bytes list is = record { grammar = list_read (folded bytes) list is.is; limit = is.limit }
-
-pub stops : {bytes now : List ℕ} {stop : Stop} (fault : Fault) → IsUtf8 bytes → now ≡ bytes → IsStop now stop
-    → ExplainsWhy bytes stop.why stop.at fault → IsRefused bytes fault
-stops {bytes} {now} {stop} fault utf8 same is told = stop_answered bytes stop fault utf8 (rw same at is) told
 
 -- a section that was handed out is the first of those that come after the sections before it
 next_is_first : (reader : SectionReader) (list : List Section) (s : Section) (later : List Section)

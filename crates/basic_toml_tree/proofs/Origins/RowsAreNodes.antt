@@ -4,7 +4,7 @@ use Rattle.std.proofs.Common.{None, refl, ap, sym, length, drop, slice_get, opti
 use Rattle.std.specs.Prelude.{◌||◌, ◌&&◌, if◌then◌else◌}
 use Rattle.std.specs.List.{list_any, list_all}
 use Rattle.std.specs.Option.{option_or}
-use Rattle.std.proofs.lemmas.Bool.{false≢true, and_parts, or_parts, cases_Bool, or_right, and_right}
+use Rattle.std.proofs.lemmas.Bool.{false≢true, and_parts, or_parts, cases_Bool, and_right}
 use Rattle.basic_toml_grammar.specs.Sections.{Key, KeyTexts, texts, Raw, Elements, no_elements, element}
 use Rattle.basic_toml_grammar.specs.Sections.{Rows, no_rows, row}
 use Rattle.basic_toml_grammar.specs.Steps.{Step, key, number, Path, step_eq, begins, overlap, steps_of}
@@ -48,13 +48,6 @@ keys_begin [] o f r q = refl
 keys_begin (k ∷ l ∷ ls) o f r (t ∷ p) = grind (arith, turn_eq (key k) r, keys_begin (l ∷ ls) o f t p)
 keys_begin (k ∷ ks) o f r q = grind (arith, turn_eq (key k) r)
 
--- two paths that begin a third overlap, and so do two of which one goes on from a third that the other begins
-pub both_begin : (p q x : Path) → begins p x ≡ true → begins q x ≡ true → overlap p q ≡ true
-both_begin [] q x a b = refl
-both_begin (s ∷ p) [] x a b = or_right (begins (s ∷ p) []) true refl
-both_begin (s ∷ p) (t ∷ q) [] a b = absurd (false≢true a)
-both_begin (s ∷ p) (t ∷ q) (u ∷ x) a b = grind (arith, step_is s u, step_is t u, step_same u, both_begin p q x)
-
 pub goes_on : (p x q : Path) → begins p x ≡ true → begins x q ≡ true → begins p q ≡ true
 goes_on [] x q a b = refl
 goes_on (s ∷ p) [] q a b = absurd (false≢true a)
@@ -64,7 +57,12 @@ goes_on (s ∷ p) (t ∷ x) (u ∷ q) a b = grind (arith, step_is s t, goes_on p
 -- what the one begins, the other does not, where they do not overlap
 pub neither_begins : (p q x : Path) → begins p x ≡ true → overlap p q ≡ false
     → (begins q x ≡ false) × (begins x q ≡ false)
-neither_begins p q x here apart = (grind (arith, both_begin p q x here), grind (arith, goes_on p x q here))
+neither_begins [] q x here apart = absurd (cc)
+neither_begins (s ∷ p) [] x here apart = absurd (cc)
+neither_begins (s ∷ p) (t ∷ q) [] here apart = absurd (false≢true here)
+neither_begins (s ∷ p) (t ∷ q) (u ∷ x) here apart =
+    let on = neither_begins p q x in
+    (grind (arith, step_is s u, turn_eq u t, on), grind (arith, step_is s u, turn_eq u t, on))
 
 -- below the value of a row no later row brings anything
 none_later : (s : ℕ) (steps : Path) (rows : Rows) (r : Step) (q : Path) → begins steps (r ∷ q) ≡ true

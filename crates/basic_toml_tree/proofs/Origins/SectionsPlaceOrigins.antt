@@ -1,7 +1,7 @@
 -- Sections entered one after another: what the rows of all of them bring into the tree, and that what headers made in
 -- it comes from a section whose header leads there.
-use Rattle.std.proofs.Common.{◌≡◌, ℕ, zero, suc, ◌+◌, true, false, List, [], ◌∷◌, ◌++◌, Option, Some, None}
-use Rattle.std.proofs.Common.{inl, inr, refl, ap, length, arith}
+use Rattle.std.proofs.Common.{◌≡◌, ℕ, zero, suc, ◌+◌, false, List, [], ◌∷◌, ◌++◌, Option, Some, None}
+use Rattle.std.proofs.Common.{inl, inr, refl, ap, sym, length, arith}
 use Rattle.std.specs.Prelude.{IsSomeAnd}
 use Rattle.std.specs.List.{list_any}
 use Rattle.std.specs.Option.{option_or}
@@ -42,15 +42,10 @@ leads_on (k ∷ ls) l zero p leads = leads
 leads_on (k ∷ ls) l (suc n) p leads = leads_on ls l n p leads
 
 -- what was there stays
-stays : (before new after : Option Origin) (P Q : Origin → Type 0) → after ≡ option_or before new
-    → ((o : Origin) → P o → Q o) → IsSomeAnd before P → IsSomeAnd after Q
-stays None new after P Q is more some = absurd some
-stays (Some o) new after P Q is more some = rw is (more o some)
-
-is_last : (o : Option Origin) (n : ℕ) (P : ℕ → Type 0) → IsSomeAnd o (λ o. (o.made ≡ true) × (o.section ≡ n)) → P n
-    → IsSomeAnd o (λ o. (o.made ≡ true) × P o.section)
-is_last None n P some leads = absurd some
-is_last (Some o) n P some leads = (some.0, rw some.1 leads)
+stays : {P Q : Origin → Type 0} {after : Option Origin} (before new : Option Origin) → IsSomeAnd before P
+    → after ≡ option_or before new → ((o : Origin) → P o → Q o) → IsSomeAnd after Q
+stays None new some is more = absurd some
+stays (Some o) new some is more = rw is (more o some)
 
 pub more_come : (ls : List Located) (l : Located) (before : Origins) (after : Within) → ComeFrom ls before
     → GrowsAlong l.path (rows_origins (length ls) l.section.rows) before after.below
@@ -64,13 +59,10 @@ more_come ls l before after come grows marks = record {
       ) refl;
   headers = λ r p made.
       let path : Path = r ∷ p in
-      let new = along l.path (rows_origins (length ls) l.section.rows) path in
       elim (cases_Bool (begins path l.path)) [
-        | inl on ↦ is_last (after.below path) (length ls) (λ n. LeadsTo (ls ++ l ∷ []) n path)
-            (marks.below r p on) (rw (last_read ls l) on)
-        | inr off ↦ stays (before path) new (after.below path) (λ o. (o.made ≡ true) × LeadsTo ls o.section path)
-            (λ o. (o.made ≡ true) × LeadsTo (ls ++ l ∷ []) o.section path) (grows path off)
+        | inl on ↦ stays (after.below path) None (marks.below r p on) (sym (or_none (after.below path)))
+            (λ o some. (some.0, rw (some.1, last_read ls l) on))
+        | inr off ↦ stays (before path) _ (come.headers r p (grind (arith, list_any-append))) (grows path off)
             (λ o some. (some.0, leads_on ls l o.section path some.1))
-            (come.headers r p (grind (arith, list_any-append)))
       ];
 }

@@ -1,7 +1,8 @@
 use Rattle.std.proofs.Common.{◌++◌, ◌∷◌, [], ap, ◌∙◌, inl}
 use Rattle.basic_toml_read.specs.SectionView.{section_of}
+use Rattle.basic_toml_read.proofs.ListIsAnswered.{stop_answered}
 use Rattle.basic_toml_tree.proofs.SectionsGrown.{more_entered, none_entered}
-use Rattle.basic_toml_tree.proofs.TreeOfText.{stops, text_is, ends_well, so_far_on, wants_memory, clashes}
+use Rattle.basic_toml_tree.proofs.TreeOfText.{text_is, ends_well, so_far_on, wants_memory, clashes}
 use Rattle.basic_toml_tree.proofs.text.take_sections.Goals as goal
 
 pub loop-stop-init : goal.loop-stop-init
@@ -23,8 +24,9 @@ returns-in-Ok-false c = ends_well c.loop-stop.invariant.0 c.in-Ok-false.ensures 
 pub returns-in-Err : goal.returns-in-Err
 returns-in-Err c =
     let grows = c.loop-stop.invariant.0 in
-    inl (stops c.explain.result c.utf8.text (ap (λ t. t.now) c.in-Err.ensures.text ∙ grows.text)
-    (c.in-Err.ensures.read grows.list grows.so_far) c.explain.ensures)
+    let text = ap (λ t. t.now) c.in-Err.ensures.text ∙ grows.text in
+    inl (stop_answered _ _ c.explain.result c.utf8.text
+    (rw text at (c.in-Err.ensures.read grows.list grows.so_far)) c.explain.ensures)
 
 pub returns-in-Err-enter_section : goal.returns-in-Err-enter_section
 returns-in-Err-enter_section c =
