@@ -4,7 +4,7 @@ use Rattle.std.proofs.Common.{Some, None, true, false, cond, length, ◌==◌, R
 use Rattle.std.specs.Option.{option_map}
 use Rattle.std.specs.Str.{bytes_eq}
 use Rattle.std.proofs.lemmas.List.{map-append}
-use Rattle.basic_toml_value.specs.Data.{Data, items_of, members_of}
+use Rattle.basic_toml_value.specs.Data.{Data, Members, items_of, members_of}
 use Rattle.basic_toml_value.specs.Text.{text_bytes}
 use Rattle.basic_toml_value.specs.Entries.{seen, texts_of}
 use Rattle.basic_toml_value.specs.Pairs.{keys_of, value_at}
@@ -35,6 +35,9 @@ child_item c = search (rules, the_lemmas)
 pub table_members : (t : Table)
     → table_data t ≡ Data.table (members_of (map (λ p. (p.0, child_data p.1)) (out-Table t).entries))
 table_members t = search (rules, the_lemmas)
+
+pub table_is_table : (t : Table) → (members : Members) × (table_data t ≡ Data.table members)
+table_is_table t = (members_of (map (λ p. (p.0, child_data p.1)) (out-Table t).entries), table_members t)
 
 pairs_seen : (pairs : List (Pair Child)) → map (λ p. (p.0, child_data p.1)) (seen pairs) ≡ map child_pair pairs
 pairs_seen [] = refl

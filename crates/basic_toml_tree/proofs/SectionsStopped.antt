@@ -97,10 +97,7 @@ stop_is_named before s later t fault keyed none entered (in_the_way stop, (met, 
     inl (rw is (section_stops before s later t entered.stands keyed none_dotted stop met))
 
 pub fault_is_named : (sections : List Section) (fault : Fault) → all_keyed sections ≡ true
-    → SectionsFault sections fault
-    → NamesClash sections fault
-    ⊎ ((offset : ℕ) × (fault ≡ fault_at nested_too_deeply offset)
-    × Contains (deep_sections nesting_limit (located sections)) offset)
+    → SectionsFault sections fault → IsNamed sections fault
 fault_is_named sections _ keyed (value {at = at} there) = inl (crossed_named sections at there)
 fault_is_named sections fault keyed (section none first) =
     rw first.parts

@@ -70,17 +70,11 @@ sections_agree [] = refl
 sections_agree (t ∷ ts) = rw (section_agrees t.1, sections_agree ts) refl
 
 -- an item whose parts come with what is to be shown of them
-abbrev Item1 : Type 0
-Item1 = (i : Item) × OfItem i
+abbrev With : {A : Type 0} → (A → Type 0) → Type 0
+With {A} P = (x : A) × P x
 
-abbrev Child1 : Type 0
-Child1 = (c : Child) × OfChild c
-
-abbrev Table1 : Type 0
-Table1 = (t : Table) × OfTable t
-
-item_agrees : (y : Item-F Item1 Child1 Table1)
-    → OfItem (roll-Item (map-Item Item1 Child1 Table1 Item Child Table (λ e. e.0) (λ e. e.0) (λ e. e.0) y))
+item_agrees : (y : Item-F (With OfItem) (With OfChild) (With OfTable))
+    → OfItem (roll-Item (map-Item _ _ _ Item Child Table (λ e. e.0) (λ e. e.0) (λ e. e.0) y))
 item_agrees (Item-F.Array es) = search (rules, the_lemmas, all_agree child_trie child_data es.items)
 item_agrees (Item-F.Section rs) = simp the_lemmas (section_agrees rs)
 item_agrees (Item-F.Inline e) = search (rules, the_lemmas, e.value.1)
@@ -100,21 +94,19 @@ item_agrees (Item-F.Sections tables) =
     ∙ rw (sections_agree tables.value.0, section_agrees tables.value.1.1) refl)
 item_agrees y = search (rules, the_lemmas)
 
-item_case : (x : Item-F Item Child Table) (y : Item-F Item1 Child1 Table1)
-    → map-Item Item1 Child1 Table1 Item Child Table (λ e. e.0) (λ e. e.0) (λ e. e.0) y ≡ x → OfItem (roll-Item x)
+item_case : (x : Item-F Item Child Table) (y : Item-F (With OfItem) (With OfChild) (With OfTable))
+    → map-Item _ _ _ Item Child Table (λ e. e.0) (λ e. e.0) (λ e. e.0) y ≡ x → OfItem (roll-Item x)
 item_case x y is = subst (λ x. OfItem (roll-Item x)) is (item_agrees y)
 
-child_case : (x : Child-F Item Child Table) (y : Child-F Item1 Child1 Table1)
-    → map-Child Item1 Child1 Table1 Item Child Table (λ e. e.0) (λ e. e.0) (λ e. e.0) y ≡ x → OfChild (roll-Child x)
-child_case x y is =
-    let agree : OfItem x.item = subst (λ z. OfItem z.item) is y.item.1 in search (rules, the_lemmas, agree)
+child_case : (x : Child-F Item Child Table) (y : Child-F (With OfItem) (With OfChild) (With OfTable))
+    → map-Child _ _ _ Item Child Table (λ e. e.0) (λ e. e.0) (λ e. e.0) y ≡ x → OfChild (roll-Child x)
+child_case x y is = subst (λ x. OfChild (roll-Child x)) is (search (rules, the_lemmas, y.item.1))
 
-table_case : (x : Table-F Item Child Table) (y : Table-F Item1 Child1 Table1)
-    → map-Table Item1 Child1 Table1 Item Child Table (λ e. e.0) (λ e. e.0) (λ e. e.0) y ≡ x → OfTable (roll-Table x)
+table_case : (x : Table-F Item Child Table) (y : Table-F (With OfItem) (With OfChild) (With OfTable))
+    → map-Table _ _ _ Item Child Table (λ e. e.0) (λ e. e.0) (λ e. e.0) y ≡ x → OfTable (roll-Table x)
 table_case x y is =
-    let agree : tries_of_entries x.entries ≡ data_of_entries x.entries =
-    subst (λ z. tries_of_entries z.entries ≡ data_of_entries z.entries) is (entries_agree y.entries) in
-    simp the_lemmas (keys_data (Some (table x.passed x.named x.dotted)) _ ∙ ap (λ ds. Data.table (members_of ds)) agree)
+    subst (λ x. OfTable (roll-Table x)) is (simp the_lemmas (keys_data (Some (table y.passed y.named y.dotted)) _
+    ∙ ap (λ ds. Data.table (members_of ds)) (entries_agree y.entries)))
 
 pub item_trie_data : (i : Item) → tree_data (item_trie i) ≡ data_of i
 item_trie_data = ind-Item OfItem OfChild OfTable item_case child_case table_case
