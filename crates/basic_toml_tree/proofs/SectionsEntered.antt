@@ -1,5 +1,5 @@
 -- The sections of a list entered one after another: what the tree is then, and what it says of one that is not entered.
-use Rattle.std.proofs.Common.{◌≡◌, inl, inr, ℕ, suc, ◌+◌, ◌<◌, ◌≤◌, true, false, List, [], ◌∷◌, ◌++◌, Some, None}
+use Rattle.std.proofs.Common.{◌≡◌, inl, inr, suc, ◌+◌, ◌<◌, ◌≤◌, true, false, List, [], ◌∷◌, ◌++◌, Some, None}
 use Rattle.std.proofs.Common.{is_some, if◌then◌else◌, refl, ap, sym, ◌∙◌, arith, nat_lt, reverse}
 use Rattle.std.specs.List.{Contains}
 use Rattle.std.proofs.lemmas.List.Elements.{Contains-append_right}
@@ -7,7 +7,7 @@ use Rattle.std.proofs.lemmas.Bool.{not-true}
 use Rattle.basic_toml_value.specs.Nesting.{nesting_limit}
 use Rattle.basic_toml_grammar.specs.Sections.{Section, texts}
 use Rattle.basic_toml_grammar.specs.RowClash.{rows_clash}
-use Rattle.basic_toml_grammar.specs.IndexedPath.{Located, located, located_after}
+use Rattle.basic_toml_grammar.specs.IndexedPath.{located, located_after, located_from}
 use Rattle.basic_toml_grammar.specs.Depth.{depth}
 use Rattle.basic_toml_grammar.specs.Document.{has_clash, tree_of_sections}
 use Rattle.basic_toml_grammar.specs.Entering.{all_keyed, all_keyed_within}
@@ -36,19 +36,6 @@ level_there earlier s t (inl e) = level_is_tree_level earlier s t e
 level_there earlier s t (inr e) =
     rw (e.0, e.1, steps_fresh s.is_array (texts s.header)) (level_is_tree_level [] s nothing refl)
 
--- lists of places, one of which is too deep, and none
-deep_among : (limit : ℕ) (ls : List Located) (l : Located) (more : List Located) → limit < tree_level l
-    → Contains (deep_sections limit (ls ++ l ∷ more)) l.section.at
-deep_among limit ls l more deep =
-    let test : nat_lt limit (tree_level l) ≡ true = grind arith in
-    let here : Contains (deep_sections limit (l ∷ more)) l.section.at = rw test (0, omega arith, refl) in
-    rw (deep_append limit ls (l ∷ more))
-    (Contains-append_right (deep_sections limit ls) (deep_sections limit (l ∷ more)) l.section.at here)
-
-none_deep : (limit : ℕ) (ls : List Located) (l : Located) → deep_sections limit ls ≡ [] → tree_level l ≤ limit
-    → deep_sections limit (ls ++ l ∷ []) ≡ []
-none_deep limit ls l none shallow = grind (arith, deep_append limit ls (l ∷ []))
-
 -- one more section, which is entered
 pub one_more : (earlier : List Section) (s : Section) (t u : Trie) → Entered earlier t
     → IsIn (walk s.is_array s.rows (texts s.header) t) s.rows (1 + steps_to s.is_array (texts s.header) t) u
@@ -59,9 +46,8 @@ one_more earlier s t u entered is =
     record {
       stands = inl (taken earlier s t u entered.stands (rw is.apart is.gives));
       shallow =
-          ap (deep_sections nesting_limit) (at_section earlier s [])
-          ∙ none_deep nesting_limit (located earlier) (located_after (reverse earlier) s) entered.shallow
-          (rw (← level_there earlier s t entered.stands) (rw level at is.fits));
+          rw (at_section earlier s [], deep_append, entered.shallow)
+          (grind (arith, level_there earlier s t entered.stands, rw level at is.fits));
     }
 
 -- a section above the limit is one of those that are too deep by their paths
@@ -69,8 +55,12 @@ pub deep_by_path : (earlier : List Section) (s : Section) (t : Trie) (later : Li
     → nesting_limit < section_level_in t s
     → Contains (deep_sections nesting_limit (located (earlier ++ s ∷ later))) s.at
 deep_by_path earlier s t later entered deep =
-    rw (at_section earlier s later) (deep_among nesting_limit (located earlier) (located_after (reverse earlier) s) _
-    (rw (← level_there earlier s t entered.stands) deep))
+    let ls = located_after (reverse earlier) s ∷ located_from (s ∷ reverse earlier) later in
+    let test : nat_lt nesting_limit (tree_level (located_after (reverse earlier) s)) ≡ true =
+    grind (arith, level_there earlier s t entered.stands, deep) in
+    let here : Contains (deep_sections nesting_limit ls) s.at = rw test (0, omega arith, refl) in
+    rw (at_section earlier s later, deep_append)
+    (Contains-append_right (deep_sections nesting_limit (located earlier)) (deep_sections nesting_limit ls) s.at here)
 
 -- the tree at the end
 module _ {sections : List Section} {t : Trie} (entered : Entered sections t) where

@@ -35,18 +35,6 @@ splits (z ∷ a) (w ∷ b) x y c d e =
       | later more g ↦ later more (cc (f, g))
     ]
 
--- a section that is stopped after some is not among those that a tree takes
-not_entered : (before : List Section) (s : Section) (more : List Section) (t u : Trie) (fault : Fault)
-    → all_keyed (before ++ s ∷ more) ≡ true → first_crossed (before ++ s ∷ more) ≡ None → Entered before t
-    → StopsSection t s fault → Entered (before ++ s ∷ more) u → ⊥
-not_entered before s more t u fault keyed none entered stopped all =
-    elim (stop_is_named before s more t fault keyed none entered stopped) [
-      | inl names ↦ false≢true (sym (no_clash all keyed) ∙ named_clashes (before ++ s ∷ more) fault names)
-      | inr deep ↦
-          let nowhere : Contains [] deep.0 = rw all.shallow at deep.2 in
-          absurd (omega (arith, nowhere.1))
-    ]
-
 -- a trie of sections takes the next one as they tell: a root as nothing does
 alike : (before : List Section) (s : Section) (t : Trie) → Stands before t
     → first_obstacle s t ≡ and_then (put_sections before nothing) (first_obstacle s)
@@ -59,15 +47,21 @@ same_fault before s t u fault other e f (x, (met, is)) (y, (met', is')) =
     let same : x ≡ y = cc (alike before s t e, alike before s u f) in is ∙ ap (obstacle_fault s) same ∙ sym is'
 
 module _ (sections : List Section) (keyed : all_keyed sections ≡ true) (none : first_crossed sections ≡ None) where
-  -- the sections before the one stop do not hold the other
+  -- the sections before the one stop do not hold the other: a tree takes them
   passed : {fault other : Fault} (a : FirstStop sections fault) (b : FirstStop sections other) (more : List Section)
       → b.before ≡ a.before ++ a.here ∷ more → ⊥
   passed a b more e =
-      let whole : sections ≡ (a.before ++ a.here ∷ more) ++ b.here ∷ b.later = rw e at b.parts in
-      not_entered a.before a.here more a.so_far b.so_far _
-      (keyed_parts (a.before ++ a.here ∷ more) (b.here ∷ b.later) (rw whole at keyed)).0
-      (none_left _ _ (sym (crossed_joined (a.before ++ a.here ∷ more) (b.here ∷ b.later)) ∙ rw whole at none))
-      a.entered a.stopped (rw e at b.entered)
+      let taken : List Section = a.before ++ a.here ∷ more in
+      let whole : sections ≡ taken ++ b.here ∷ b.later = rw e at b.parts in
+      let keys = (keyed_parts taken (b.here ∷ b.later) (rw whole at keyed)).0 in
+      let free = none_left _ _ (sym (crossed_joined taken (b.here ∷ b.later)) ∙ rw whole at none) in
+      let entered : Entered taken b.so_far = rw e at b.entered in
+      elim (stop_is_named a.before a.here more a.so_far _ keys free a.entered a.stopped) [
+        | inl names ↦ false≢true (sym (no_clash entered keys) ∙ named_clashes taken _ names)
+        | inr deep ↦
+            let nowhere : Contains [] deep.0 = rw entered.shallow at deep.2 in
+            absurd (omega (arith, nowhere.1))
+      ]
 
   one_stop : {fault other : Fault} (a : FirstStop sections fault) (b : FirstStop sections other)
       → Splits a.before b.before a.here b.here → fault ≡ other

@@ -211,9 +211,6 @@ module _ (ls : List Located) (last : Option ℕ) (l : Located) (n : ℕ) where
     | inr not ↦ rw (rows_apart l.section.rows p not back, along_apart l.path p (rows_origins n l.section.rows) not) refl
   ]
 
-or_same : (m n : Option Node) (o p : Option Origin) → Same m o → Same n p → Same (option_or m n) (option_or o p)
-or_same m n o p first later = grind arith
-
 pub sections_same : (ls : List Located) (last : Option ℕ) (n : ℕ) (later : List Located) (p : Path)
     → list_any (λ l. begins p l.path) later ≡ false → list_any (λ l. rows_clash l.section.rows) later ≡ false
     → list_all (λ l. keyed_within l.section.rows) later ≡ true
@@ -223,5 +220,4 @@ sections_same ls last n (l ∷ later) p back apart keyed =
     let b = or_parts (begins p l.path) (list_any (λ l. begins p l.path) later) back in
     let a = or_parts (rows_clash l.section.rows) (list_any (λ l. rows_clash l.section.rows) later) apart in
     let k = and_parts (keyed_within l.section.rows) (list_all (λ l. keyed_within l.section.rows) later) keyed in
-    or_same _ (node_of_sections ls last later p) _ (sections_origins (suc n) later p)
-    (section_same ls last l n p b.0 a.0 k.0) (sections_same ls last (suc n) later p b.1 a.1 k.1)
+    grind (arith, section_same ls last l n p b.0 a.0 k.0, sections_same ls last (suc n) later p b.1 a.1 k.1)

@@ -7,8 +7,8 @@ use Rattle.basic_toml_grammar.specs.Steps.{key, number, Path}
 use Rattle.basic_toml_grammar.specs.IndexedPath.{latest, located_after}
 use Rattle.basic_toml_grammar.specs.Placed.{step_into, path_of, elements_at, target_from, element_from, placed_after}
 use Rattle.basic_toml_grammar.specs.Marks.{Mark}
-use Rattle.basic_toml_grammar.specs.Entering.{element_count, count_at, enter_all, all_keyed}
-use Rattle.basic_toml_grammar.specs.Trie.{Trie, nothing, standing, below, count, put_sections}
+use Rattle.basic_toml_grammar.specs.Entering.{count_at, enter_all, all_keyed}
+use Rattle.basic_toml_grammar.specs.Trie.{Trie, nothing, below, count, put_sections}
 use Rattle.basic_toml_grammar.proofs.Clash.SectionsLeaveMarks.{onto, Past, entered}
 use Rattle.basic_toml_grammar.proofs.Clash.EnteringAccepts.{offset_same}
 use Rattle.basic_toml_grammar.proofs.Tries.MarksInATrie.{trie_of, descend, standing_of}
@@ -24,9 +24,7 @@ descend_on (s ∷ p) q t = descend_on p q (below s t)
 
 counted : (st : List Mark) (cut : Path) (k : List ℕ)
     → count (below (key k) (descend cut (trie_of st))) ≡ count_at st (cut ++ key k ∷ [])
-counted st cut k =
-    ap (λ t. element_count (standing t)) (sym (descend_on cut (key k ∷ []) (trie_of st)))
-    ∙ ap element_count (standing_of st (cut ++ key k ∷ []))
+counted st cut k = rw (← standing_of st (cut ++ key k ∷ []), descend_on cut (key k ∷ []) (trie_of st)) refl
 
 -- where a header leads from a cut on
 abbrev path_from : (Path → ℕ) → Bool → Path → KeyTexts → Path
@@ -56,10 +54,7 @@ ways_are st a cut (k ∷ l ∷ keys) =
 
 onto_all : (ss before : List Section) → onto ss before ≡ reverse ss ++ before
 onto_all [] before = refl
-onto_all (s ∷ ss) before =
-    onto_all ss (s ∷ before)
-    ∙ sym (append_assoc (reverse ss) (s ∷ []) before)
-    ∙ ap (λ ss. ss ++ before) (sym (reverse_onto ss s []))
+onto_all (s ∷ ss) before = rw (onto_all ss (s ∷ before), reverse_onto ss s [], append_assoc) refl
 
 put_way : (earlier : List Section) (s : Section) (t : Trie) → all_keyed earlier ≡ true
     → put_sections earlier nothing ≡ Some t
