@@ -156,7 +156,7 @@ module _ (ss : List Section) (st : List Mark) (e : enter_all ss [] ≡ Some st) 
   kept : {p : Path} {k : MarkKind} → Saying p k → keeps k (standing_at st p) ≡ true
   kept {p = p} {k = k} x =
       let l = x.place in
-      keep [] (all_marks (placed ss)) st p k (among_all (placed ss) x.among (marked l.element l.rows l.target x.says)) took
+      keep [] _ st p k (among_all (placed ss) x.among (marked l.element l.rows l.target x.says)) took
 
   saying : {p : Path} {k : MarkKind} → Among (mark p k) st → Saying p k
   saying a = elim (made [] (all_marks (placed ss)) st took a) [

@@ -14,7 +14,7 @@ use Rattle.basic_toml_grow.specs.Crossed.{first_crossed}
 use Rattle.basic_toml_grow.proofs.ValuesOnTheWay.{none_left}
 use Rattle.basic_toml_tree.specs.FirstStop.{Stands, Entered, StopsSection, FirstStop, value}
 use Rattle.basic_toml_tree.specs.FirstStop.{section, SectionsFaultIsOne}
-use Rattle.basic_toml_tree.proofs.SectionsEntered.{no_clash}
+use Rattle.basic_toml_tree.proofs.SectionsGrown.{no_clash}
 use Rattle.basic_toml_tree.proofs.SectionsStopped.{stop_is_named, keyed_parts, crossed_joined}
 
 -- two splits of one list: at the same place, or the one before the other

@@ -1,31 +1,32 @@
 -- The fault of a list that has no tree names a clash of it, or a section that is too deep.
-use Rattle.std.proofs.Common.{◌≡◌, ◌⊎◌, inl, inr, ℕ, true, List, [], ◌∷◌, ◌++◌, refl, ap, sym, ◌∙◌}
-use Rattle.std.proofs.Common.{arith, ◌<◌, Some, None}
-use Rattle.std.specs.Prelude.{Contains}
-use Rattle.std.specs.List.{flat_map}
+use Rattle.std.proofs.Common.{◌≡◌, ◌⊎◌, inl, inr, ℕ, true, List, [], ◌∷◌, ◌++◌, refl, ap, sym, ◌∙◌, arith, ◌<◌, Some}
+use Rattle.std.proofs.Common.{None, nat_lt, reverse}
+use Rattle.std.specs.List.{flat_map, Contains}
 use Rattle.std.specs.Option.{option_or}
 use Rattle.std.proofs.lemmas.Bool.{and_parts}
 use Rattle.basic_toml_grammar.specs.Sections.{Section, texts}
 use Rattle.basic_toml_grammar.specs.Entering.{is_keyed, all_keyed}
 use Rattle.basic_toml_grammar.specs.Faults.{Fault, nested_too_deeply, out_of_memory}
 use Rattle.basic_toml_grammar.specs.GrammarFaults.{fault_at}
-use Rattle.basic_toml_grammar.specs.IndexedPath.{located}
-use Rattle.basic_toml_grammar.specs.NestingFaults.{deep_sections}
+use Rattle.basic_toml_grammar.specs.IndexedPath.{located, located_after, located_from}
+use Rattle.basic_toml_grammar.specs.NestingFaults.{deep_sections, tree_level}
 use Rattle.basic_toml_grammar.specs.NamedClash.{NamesClash, dotted_fault, dotted_faults, repeated_faults_of}
 use Rattle.basic_toml_grammar.specs.NamedClash.{section_faults, first_of_two}
 use Rattle.basic_toml_value.specs.Nesting.{nesting_limit}
 use Rattle.basic_toml_grammar.specs.Stops.{Stop, is_named, stop_fault}
-use Rattle.basic_toml_grammar.specs.Trie.{Trie, nothing}
+use Rattle.basic_toml_grammar.specs.Trie.{Trie, nothing, section_level_in}
 use Rattle.basic_toml_grammar.proofs.Naming.TrieStopsAreNamed.{trie_stops_named}
 use Rattle.basic_toml_grow.specs.Clash.{Obstacle, too_deep, in_the_way, obstacle_fault}
 use Rattle.basic_toml_grow.specs.Obstacles.{first_obstacle}
 use Rattle.basic_toml_tree.specs.FirstStop.{Stands, Entered, StopsSection, SectionsFault, value, section}
 use Rattle.basic_toml_grow.specs.Crossed.{first_crossed}
 use Rattle.basic_toml_grow.proofs.CrossedIsFault.{tells_sections}
-use Rattle.basic_toml_tree.proofs.SectionsEntered.{deep_by_path}
 use Rattle.basic_toml_grow.proofs.HeadersStopped.{met_fresh}
 use Rattle.basic_toml_grow.proofs.ObstaclesAreStops.{met_stops}
 use Rattle.basic_toml_grow.proofs.ObstaclesAreLevels.{met_deep}
+use Rattle.std.proofs.lemmas.List.Elements.{Contains-append_right}
+use Rattle.basic_toml_grow.proofs.HeadersInATrie.{steps_fresh}
+use Rattle.basic_toml_grammar.proofs.Tries.StepsArePaths.{level_is_tree_level, at_section, deep_append}
 
 -- the first sections of a list with keys, and the others
 pub keyed_parts : (earlier later : List Section) → all_keyed (earlier ++ later) ≡ true
@@ -78,6 +79,25 @@ crossed_named sections at there =
     first_contained (flat_map (λ s. dotted_faults s.rows) sections)
     (flat_map repeated_faults_of sections ++ section_faults (located sections)) (dotted_fault at)
     (rw there at (tells_sections sections))
+
+-- a section is on the level in the trie of those before it that its path has
+pub level_there : (earlier : List Section) (s : Section) (t : Trie) → Stands earlier t
+    → section_level_in t s ≡ tree_level (located_after (reverse earlier) s)
+level_there earlier s t (inl e) = level_is_tree_level earlier s t e
+level_there earlier s t (inr e) =
+    rw (e.0, e.1, steps_fresh s.is_array (texts s.header)) (level_is_tree_level [] s nothing refl)
+
+-- a section above the limit is one of those that are too deep by their paths
+deep_by_path : (earlier : List Section) (s : Section) (t : Trie) (later : List Section) → Entered earlier t
+    → nesting_limit < section_level_in t s
+    → Contains (deep_sections nesting_limit (located (earlier ++ s ∷ later))) s.at
+deep_by_path earlier s t later entered deep =
+    let ls = located_after (reverse earlier) s ∷ located_from (s ∷ reverse earlier) later in
+    let test : nat_lt nesting_limit (tree_level (located_after (reverse earlier) s)) ≡ true =
+    grind (arith, level_there earlier s t entered.stands, deep) in
+    let here : Contains (deep_sections nesting_limit ls) s.at = rw test (0, omega arith, refl) in
+    rw (at_section earlier s later, deep_append)
+    (Contains-append_right (deep_sections nesting_limit (located earlier)) (deep_sections nesting_limit ls) s.at here)
 
 -- The fault names a clash of the list, or a section of it that is too deep.
 abbrev pub IsNamed : List Section → Fault → Type 0

@@ -23,8 +23,7 @@ use Rattle.basic_toml_tree.specs.Paths.{data_along}
 use Rattle.basic_toml_tree.specs.Statements.{EveryNodeIsForetold, EveryNodeOfAListIsForetold}
 use Rattle.basic_toml_tree.proofs.Origins.RowsAreNodes.{sections_same}
 use Rattle.basic_toml_tree.proofs.Nodes.RowNodesTold.{located_any, located_keyed}
-use Rattle.basic_toml_tree.proofs.Foretold.PathsReached.{InTurn, bare_in_turn, tree_leads}
-use Rattle.basic_toml_tree.proofs.Foretold.ValuesFound.{sections_found}
+use Rattle.basic_toml_tree.proofs.Foretold.PathsReached.{InTurn, bare_in_turn, tree_leads, sections_found}
 
 -- the elements of a list without clashes stand in the order of their numbers
 in_turn : (sections : List Section) → all_keyed sections ≡ true → has_clash sections ≡ false

@@ -2,8 +2,7 @@ use Rattle.std.proofs.Common.{◌∙◌, sym, arith, rules}
 use Rattle.std.proofs.lemmas.List.{length-set, get_or-set_other}
 use Rattle.basic_toml_tree.specs.FirstStop.{value}
 use Rattle.basic_toml_tree.specs.Resolve.{refused}
-use Rattle.basic_toml_tree.proofs.SectionsGrown.{none_there}
-use Rattle.basic_toml_tree.proofs.SectionsResolved.{want_of, stays_out, goes_on, resolved, begins, none_left}
+use Rattle.basic_toml_tree.proofs.SectionsGrown.{want_of, stays_out, goes_on, resolved, begins, none_left, none_there}
 use Rattle.basic_toml_tree.proofs.tree.grow.Goals as goal
 
 pub returns-in_err-at : goal.returns-in_err-at
