@@ -169,17 +169,14 @@ module _ (ss : List Section) (st : List Mark) (e : enter_all ss [] ≡ Some st) 
   added_there : {p : Path} → Saying p by_latest → Added (placed ss) p
   added_there {p = p} x = latest_added (placed ss) [] ss (λ k a. elim a [ ]) (λ k a. a) x.place x.among p x.says
 
-  array_kept : {p : Path} → Added (placed ss) p → lasts true (standing_at st p) ≡ true
-  array_kept {p = p} k =
-      kept {k = added}
-      (record { place = k.0; among = k.2; says = rw (k.3, k.4) (says_added k.1 k.0.rows p) })
-
   header_lasts : {p : Path} (k : MarkKind) → is_header k ≡ true → Saying p k
       → lasts (of_array k) (standing_at st p) ≡ true
   header_lasts passed h x = kept x
   header_lasts named h x = kept x
   header_lasts added h x = kept x
-  header_lasts by_latest h x = array_kept (added_there x)
+  header_lasts {p = p} by_latest h x =
+      let k = added_there x in
+      kept {k = added} (record { place = k.0; among = k.2; says = rw (k.3, k.4) (says_added k.1 k.0.rows p) })
   header_lasts k h x = absurd (false≢true h)
 
   -- what lasts is made, and where it is of an array, it is one

@@ -8,7 +8,6 @@ use Rattle.basic_toml_value.specs.Nesting.{nesting_limit}
 use Rattle.basic_toml_grammar.specs.Sections.{Section, texts, Key}
 use Rattle.basic_toml_grammar.specs.RowClash.{rows_clash}
 use Rattle.basic_toml_grammar.specs.IndexedPath.{located, located_after, located_from}
-use Rattle.basic_toml_grammar.specs.Depth.{depth}
 use Rattle.basic_toml_grammar.specs.Document.{has_clash, tree_of_sections}
 use Rattle.basic_toml_grammar.specs.Entering.{all_keyed, all_keyed_within}
 use Rattle.basic_toml_grammar.specs.Growth.{closed}
@@ -56,38 +55,17 @@ taken earlier s t u (inr e) put =
     let fresh_is = ap (λ w. if rows_clash s.rows then None else w) (walk_fresh s.is_array s.rows (texts s.header)) in
     let first : put_section s nothing ≡ Some u = sym fresh_is ∙ rw e.1 at put in rw (e.0, first) refl
 
--- one more section, which is entered
-pub one_more : (earlier : List Section) (s : Section) (t u : Trie) → Entered earlier t
-    → IsIn (walk s.is_array s.rows (texts s.header) t) s.rows (1 + steps_to s.is_array (texts s.header) t) u
-    → Entered (earlier ++ s ∷ []) u
-one_more earlier s t u entered is =
-    let steps = steps_to s.is_array (texts s.header) t in
-    let level : 1 + steps ≡ suc steps = omega arith in
-    record {
-      stands = inl (taken earlier s t u entered.stands (rw is.apart is.gives));
-      shallow =
-          rw (at_section earlier s [], deep_append, entered.shallow)
-          (grind (arith, level_there earlier s t entered.stands, rw level at is.fits));
-    }
-
 -- the tree at the end
-module _ {sections : List Section} {t : Trie} (entered : Entered sections t) where
-  pub whole_tree : closed (bare t) ≡ tree_of_sections sections
-  whole_tree = elim entered.stands [
-    | inl e ↦ sections_data sections t e
-    | inr e ↦ rw (e.0, e.1) refl
-  ]
+whole_tree : (sections : List Section) (t : Trie) → Stands sections t → closed (bare t) ≡ tree_of_sections sections
+whole_tree sections t (inl e) = sections_data sections t e
+whole_tree sections t (inr e) = rw (e.0, e.1) refl
 
-  pub no_clash : all_keyed sections ≡ true → has_clash sections ≡ false
-  no_clash keyed = elim entered.stands [
-    | inl e ↦ not-true (has_clash sections) (sym (sections_put sections keyed) ∙ ap is_some e)
-    | inr e ↦ ap has_clash e.0
-  ]
-
-  pub fits_all : all_keyed sections ≡ true → all_keyed_within sections ≡ true
-      → depth (tree_of_sections sections) ≤ nesting_limit
-  fits_all keyed within =
-      fits_where_shallow nesting_limit sections keyed within (no_clash keyed) entered.shallow (omega arith)
+pub no_clash : {sections : List Section} {t : Trie} → Entered sections t → all_keyed sections ≡ true
+    → has_clash sections ≡ false
+no_clash {sections} entered keyed = elim entered.stands [
+  | inl e ↦ not-true (has_clash sections) (sym (sections_put sections keyed) ∙ ap is_some e)
+  | inr e ↦ ap has_clash e.0
+]
 
 -- These sections are entered in a table, their headers are kept, and what rows and headers made comes from them.
 pub record HaveEntered (list : List Section) (headers : List (ℕ × List Key)) (root : Table) : Type 0 where
@@ -107,10 +85,11 @@ pub entered_resolved : (list : List Section) (tree : Tree) → HaveEntered list 
     → all_keyed list ≡ true → all_keyed_within list ≡ true → IsResolved list tree
 entered_resolved list tree have keyed within =
     let origins = have.origins keyed in
+    let clash = no_clash have.entered keyed in
     record {
-      clash = no_clash have.entered keyed;
-      fits = fits_all have.entered keyed within;
-      grown = sym (table_trie_data tree.root) ∙ whole_tree have.entered;
+      clash = clash;
+      fits = fits_where_shallow nesting_limit list keyed within clash have.entered.shallow (omega arith);
+      grown = sym (table_trie_data tree.root) ∙ whole_tree list (table_trie tree.root) have.entered.stands;
       stands = have.entered.stands;
       heads = have.heads;
       within = within;
@@ -157,7 +136,12 @@ module _ {list : List Section} {headers : List (ℕ × List Key)} {root : Table}
   pub more_entered : (s : Section) (n : ℕ) (after : Table) (more : List (ℕ × List Key)) → n ≡ length headers
       → GoesIn s n root after → more ≡ headers ++ head s ∷ [] → HaveEntered (list ++ s ∷ []) more after
   more_entered s n after more counted goes pushed = record {
-    entered = one_more list s (table_trie root) (table_trie after) have.entered goes.is_in;
+    entered = record {
+      stands = inl (taken list s _ _ have.entered.stands (rw goes.is_in.apart goes.is_in.gives));
+      shallow =
+          rw (at_section list s [], deep_append, have.entered.shallow)
+          (grind (arith, level_there list s (table_trie root) have.entered.stands, rw (one_more _) at goes.is_in.fits));
+    };
     heads = pushed ∙ ap (λ hs. hs ++ head s ∷ []) have.heads ∙ sym (map-append head list (s ∷ []));
     origins = λ keyed.
         let before = (keyed_parts list (s ∷ []) keyed).0 in
@@ -168,6 +152,9 @@ module _ {list : List Section} {headers : List (ℕ × List Key)} {root : Table}
         (have.origins before) (rw (path, number) at goes.grows) (rw (path, number) at goes.marks));
   }
     where
+      one_more : (n : ℕ) → 1 + n ≡ suc n
+      one_more n = omega arith
+
       located_count : (before ss : List Section) → length (located_from before ss) ≡ length ss
       located_count before [] = refl
       located_count before (s ∷ ss) = ap suc (located_count (s ∷ before) ss)

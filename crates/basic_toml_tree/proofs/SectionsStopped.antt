@@ -13,11 +13,10 @@ use Rattle.basic_toml_grammar.specs.NestingFaults.{deep_sections, tree_level}
 use Rattle.basic_toml_grammar.specs.NamedClash.{NamesClash, dotted_fault, dotted_faults, repeated_faults_of}
 use Rattle.basic_toml_grammar.specs.NamedClash.{section_faults, first_of_two}
 use Rattle.basic_toml_value.specs.Nesting.{nesting_limit}
-use Rattle.basic_toml_grammar.specs.Stops.{Stop, is_named, stop_fault}
+use Rattle.basic_toml_grammar.specs.Stops.{is_named}
 use Rattle.basic_toml_grammar.specs.Trie.{Trie, nothing, section_level_in}
 use Rattle.basic_toml_grammar.proofs.Naming.TrieStopsAreNamed.{trie_stops_named}
 use Rattle.basic_toml_grow.specs.Clash.{Obstacle, too_deep, in_the_way, obstacle_fault}
-use Rattle.basic_toml_grow.specs.Obstacles.{first_obstacle}
 use Rattle.basic_toml_tree.specs.FirstStop.{Stands, Entered, StopsSection, SectionsFault, value, section}
 use Rattle.basic_toml_grow.specs.Crossed.{first_crossed}
 use Rattle.basic_toml_grow.proofs.CrossedIsFault.{tells_sections}
@@ -34,21 +33,6 @@ pub keyed_parts : (earlier later : List Section) → all_keyed (earlier ++ later
 keyed_parts [] later keyed = (refl, keyed)
 keyed_parts (r ∷ earlier) later keyed =
     (grind (arith, keyed_parts earlier later), grind (arith, keyed_parts earlier later))
-
--- what stands in the way of a section names a clash
-section_stops : (earlier : List Section) (s : Section) (later : List Section) (t : Trie) → Stands earlier t
-    → all_keyed (earlier ++ s ∷ later) ≡ true → flat_map (λ s. dotted_faults s.rows) (earlier ++ s ∷ later) ≡ []
-    → (x : Stop) → first_obstacle s t ≡ Some (in_the_way x) → NamesClash (earlier ++ s ∷ later) (stop_fault s x)
-section_stops earlier s later t stands keyed none x e =
-    let parts = keyed_parts earlier (s ∷ later) keyed in
-    let here = (and_parts (is_keyed s) (all_keyed later) parts.1).0 in
-    elim stands [
-      | inl put ↦ trie_stops_named earlier s later t x parts.0 here none put
-          (met_stops s.is_array s.rows (texts s.header) 1 t x e)
-      | inr first ↦ rw first.0 (trie_stops_named [] s later nothing x refl here (rw first.0 at none) refl
-          (met_stops s.is_array s.rows (texts s.header) 1 nothing x
-          (sym (met_fresh s.is_array s.rows (texts s.header) 1) ∙ rw first.1 at e)))
-    ]
 
 -- the fault of what is met is told by the header and the offset
 pub same_obstacle_fault : (r s : Section) → r.header ≡ s.header → r.at ≡ s.at → (x : Obstacle)
@@ -113,8 +97,16 @@ pub stop_is_named : (before : List Section) (s : Section) (later : List Section)
 stop_is_named before s later t fault keyed none entered (too_deep, (met, is)) =
     inr (s.at, is, deep_by_path before s t later entered (met_deep s t met))
 stop_is_named before s later t fault keyed none entered (in_the_way stop, (met, is)) =
-    let none_dotted = rw none at (tells_sections (before ++ s ∷ later)) in
-    inl (rw is (section_stops before s later t entered.stands keyed none_dotted stop met))
+    let free = rw none at (tells_sections (before ++ s ∷ later)) in
+    let parts = keyed_parts before (s ∷ later) keyed in
+    let here = (and_parts (is_keyed s) (all_keyed later) parts.1).0 in
+    inl (rw is (elim entered.stands [
+      | inl put ↦ trie_stops_named before s later t stop parts.0 here free put
+          (met_stops s.is_array s.rows (texts s.header) 1 t stop met)
+      | inr first ↦ rw first.0 (trie_stops_named [] s later nothing stop refl here (rw first.0 at free) refl
+          (met_stops s.is_array s.rows (texts s.header) 1 nothing stop
+          (sym (met_fresh s.is_array s.rows (texts s.header) 1) ∙ rw first.1 at met)))
+    ]))
 
 pub fault_is_named : (sections : List Section) (fault : Fault) → all_keyed sections ≡ true
     → SectionsFault sections fault → IsNamed sections fault

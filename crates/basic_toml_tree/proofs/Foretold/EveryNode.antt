@@ -7,8 +7,7 @@ use Rattle.std.proofs.lemmas.Bool.{false≢true, or_parts, cases_Bool}
 use Rattle.basic_toml_grammar.specs.Sections.{Section}
 use Rattle.basic_toml_grammar.specs.Steps.{Path}
 use Rattle.basic_toml_grammar.specs.IndexedPath.{Located, located}
-use Rattle.basic_toml_grammar.specs.RowClash.{rows_clash, has_row_clash}
-use Rattle.basic_toml_grammar.specs.SectionClash.{sections_clash}
+use Rattle.basic_toml_grammar.specs.RowClash.{rows_clash}
 use Rattle.basic_toml_grammar.specs.Growth.{nothing_grown, grow_all}
 use Rattle.basic_toml_grammar.specs.Mentions.{mentions}
 use Rattle.basic_toml_grammar.specs.Document.{has_clash, tree_of_sections}
@@ -43,9 +42,8 @@ foretold_there sections [] keyed within free e = refl
 foretold_there sections (s ∷ p) keyed within free e = elim (cases_Bool (is_made ls (s ∷ p))) [
   | inl made ↦ rw made refl
   | inr not ↦
-      let same = sections_same ls (last_at sections) 0 ls (s ∷ p) not
-      (located_any (λ s. rows_clash s.rows) [] sections
-      ∙ (or_parts (has_row_clash sections) (sections_clash sections) free).0) (located_keyed [] sections ∙ within) in
+      let apart = located_any (λ s. rows_clash s.rows) [] sections ∙ (or_parts _ _ free).0 in
+      let same = sections_same ls (last_at sections) 0 ls (s ∷ p) not apart (located_keyed [] sections ∙ within) in
       let found = sections_found 0 ls (s ∷ p) not (tree_leads (mentions ls) s p (in_turn sections keyed free) e) in
       rw not (grind (arith, same, found))
 ]

@@ -126,11 +126,9 @@ mutual
       → Same (node_among keys outer es n p) (under (slice_get (elements_origins s es) n) p)
   among_same keys outer s no_elements n p apart keyed = refl
   among_same keys outer s (element at v es) zero p apart keyed =
-      value_same keys outer s at v p (or_parts (value_clashes v) (elements_clash es) apart).0
-      (and_parts (value_keyed v) (elements_keyed es) keyed).0
+      value_same keys outer s at v p (or_parts _ _ apart).0 (and_parts _ _ keyed).0
   among_same keys outer s (element at v es) (suc n) p apart keyed =
-      among_same keys outer s es n p (or_parts (value_clashes v) (elements_clash es) apart).1
-      (and_parts (value_keyed v) (elements_keyed es) keyed).1
+      among_same keys outer s es n p (or_parts _ _ apart).1 (and_parts _ _ keyed).1
 
   by_same : (keys : KeyTexts) (outer : Option ℕ) (s : ℕ) (all rows : Rows) (r : Step) (q : Path)
       → rows_clash rows ≡ false → keyed_within rows ≡ true
