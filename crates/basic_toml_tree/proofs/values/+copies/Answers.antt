@@ -26,8 +26,7 @@ entries_of-value_of-requires t c =
 
 pub table_of-entries_of-requires : goal.table_of-entries_of-requires
 table_of-entries_of-requires t c =
-    let same = table_of_pairs c.args.table.now c.entries.result.now c.entries.ensures.pairs in
-    (omega (arith, ap data_size same), tt)
+    (omega (arith, ap data_size (table_of_pairs c.args.table.now c.entries.result.now c.entries.ensures.pairs)), tt)
 
 pub table_of-from_parts-requires : goal.table_of-from_parts-requires
 table_of-from_parts-requires t c =
@@ -50,8 +49,7 @@ table_of-returns-clause-table t c =
 
 pub tables_of-table_of-requires : goal.tables_of-table_of-requires
 tables_of-table_of-requires t c =
-    let smaller = items_size-at table_data _ _ _ c.loop-table-test.true c.table-item.is in
-    (omega (arith, smaller), tt)
+    (omega (arith, items_size-at table_data _ _ _ c.loop-table-test.true c.table-item.is), tt)
 
 pub tables_of-loop-table-preserved : goal.tables_of-loop-table-preserved
 tables_of-loop-table-preserved t c =
@@ -63,9 +61,7 @@ value_of-tables_of-requires t c =
     let tables = c.in-Tables.tables in
     let front = items_size-front (map table_data tables.value.0.items) (table_data tables.value.1) in
     let same = ap data_of c.in-Tables.is ∙ tables_data tables in
-    let slice = ap (λ ts. items_size (items_of (map table_data ts))) c.as_slice-in-Tables.ensures.value in
-    let earlier = ap (λ ts. items_size (items_of (map table_data ts.0.items))) c.deref-in-Tables.ensures in
-    (omega (arith, ap data_size same), tt)
+    (rw (c.as_slice-in-Tables.ensures.value, c.deref-in-Tables.ensures) (omega (arith, ap data_size same)), tt)
 
 pub value_of-table_of-requires-in-Tables : goal.value_of-table_of-requires-in-Tables
 value_of-table_of-requires-in-Tables t c =

@@ -69,15 +69,13 @@ pub into_array_of_tables-into_tables-requires : goal.into_array_of_tables-into_t
 into_array_of_tables-into_tables-requires t c =
     let both = c.args.tables.value in
     let front = items_size-front (map table_data both.0.items) (table_data both.1) in
-    let earlier = ap (λ ts. items_size (items_of (map table_data ts.0.items))) c.into_inner-earlier.ensures in
-    (omega (arith, ap data_size (tables_data c.args.tables)), tt)
+    (rw c.into_inner-earlier.ensures (omega (arith, ap data_size (tables_data c.args.tables))), tt)
 
 pub into_array_of_tables-into_table-requires : goal.into_array_of_tables-into_table-requires
 into_array_of_tables-into_table-requires t c =
     let both = c.args.tables.value in
     let last = items_size-last (map table_data both.0.items) (table_data both.1) in
-    let latest = ap (λ ts. data_size (table_data ts.1)) c.into_inner-earlier.ensures in
-    (omega (arith, ap data_size (tables_data c.args.tables)), tt)
+    (rw c.into_inner-earlier.ensures (omega (arith, ap data_size (tables_data c.args.tables))), tt)
 
 pub into_array_of_tables-returns : goal.into_array_of_tables-returns
 into_array_of_tables-returns t c =
