@@ -1,5 +1,5 @@
 -- The headers of sections, as they are kept and as contracts see them.
-use Rattle.std.proofs.Common.{◌≡◌, ◌≤◌, ◌<◌, ◌-◌, ℕ, zero, suc, List, [], ◌∷◌, ◌++◌, length, map, drop}
+use Rattle.std.proofs.Common.{◌≡◌, ◌≤◌, ◌-◌, ℕ, zero, suc, List, [], ◌∷◌, ◌++◌, length, map, drop}
 use Rattle.std.proofs.Common.{Some, refl, ap, arith, rules, length-append}
 use Rattle.std.specs.Prelude.{slice_get, slice_index_or, slice_range}
 use native.Mathlib.Numerals.{unary_clauses}
@@ -12,8 +12,7 @@ use Rattle.basic_toml_tree.specs.Headers.{keys_at, last_of, headers_from, range_
 use Rattle.basic_toml_tree.specs.Origin.{header_of}
 
 -- how many there are
-pub count_from : (from : ℕ) (hs : List Head) (keys : List code.Key)
-    → length (headers_from from hs keys) ≡ length hs
+pub count_from : (from : ℕ) (hs : List Head) (keys : List code.Key) → length (headers_from from hs keys) ≡ length hs
 count_from from [] keys = refl
 count_from from (h ∷ hs) keys = ap suc (count_from h.end hs keys)
 
@@ -50,10 +49,9 @@ keys_in_range from (h ∷ hs) keys zero = refl
 keys_in_range from (h ∷ hs) keys (suc n) = keys_in_range h.end hs keys n
 
 -- one header more, with the keys that come last
-pub one_more : (from : ℕ) (hs : List Head) (keys more : List code.Key) (h : Head)
-    → EndsRise from hs (length keys) → h.end ≡ length (keys ++ more)
-    → headers_from from (hs ++ h ∷ []) (keys ++ more)
-    ≡ headers_from from hs keys ++ (h.at, map key_of more) ∷ []
+pub one_more : (from : ℕ) (hs : List Head) (keys more : List code.Key) (h : Head) → EndsRise from hs (length keys)
+    → h.end ≡ length (keys ++ more)
+    → headers_from from (hs ++ h ∷ []) (keys ++ more) ≡ headers_from from hs keys ++ (h.at, map key_of more) ∷ []
 one_more from [] keys more h rise end =
     let last = take_all (h.end - length keys) more (omega (arith, end, length-append keys more)) in
     rw (rise, drop-append_seam keys more, last) refl

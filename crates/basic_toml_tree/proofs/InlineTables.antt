@@ -60,10 +60,8 @@ pub raw_no_elements : (v : raws.Raw) → is_plain v 0 ≡ true → ((es : Vec El
 raw_no_elements v plain other = go (raws.out-Raw v) (sym (raws.roll-out-Raw v))
   where
     go : (x : Raw-F raws.Raw Element Row Rows) → v ≡ raws.roll-Raw x → elements_in (plain_data v) ≡ []
-    go (Raw-F.Array z) is =
-        absurd (other z (is ∙ search (rules, raws.the_lemmas)))
-    go (Raw-F.Inline z) is =
-        no_elements (plain_data v) (raw_is_table v z (is ∙ search (rules, raws.the_lemmas)))
+    go (Raw-F.Array z) is = absurd (other z (is ∙ search (rules, raws.the_lemmas)))
+    go (Raw-F.Inline z) is = no_elements (plain_data v) (raw_is_table v z (is ∙ search (rules, raws.the_lemmas)))
     go (Raw-F.Dotted z) is =
         let not_plain : is_plain (raws.roll-Raw (Raw-F.Dotted z)) 0 ≡ false = search (rules, raws.the_lemmas) in
         absurd (cc not_plain)

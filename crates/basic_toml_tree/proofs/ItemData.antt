@@ -45,8 +45,7 @@ pairs_seen (p ∷ ps) = ap (λ l. child_pair p ∷ l) (pairs_seen ps)
 
 pub table_of_pairs : (t : Table) (pairs : List (Pair Child)) → seen pairs ≡ (out-Table t).entries
     → table_data t ≡ Data.table (members_of (map child_pair pairs))
-table_of_pairs t pairs same =
-    rw (table_members t, ← same, pairs_seen pairs) refl
+table_of_pairs t pairs same = rw (table_members t, ← same, pairs_seen pairs) refl
 
 -- where memory is refused to a table that has entries or rows, it holds something
 refused : {A B E : Type 0} (f : A → List ℕ × Data) (xs : List A) (d : Data) (result : Result B E)

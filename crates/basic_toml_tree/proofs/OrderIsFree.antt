@@ -56,8 +56,7 @@ module _ (sections others : List Section) (same : MeanTheSame sections others) w
 mean_the_same : (sections others : List Section) → all_keyed sections ≡ true → IsReordering sections others
     → MeanTheSame sections others
 mean_the_same sections others keyed (inl paths) = reordered_means_the_same sections others keyed paths
-mean_the_same sections others keyed (inr plain) =
-    plain_reordered_means_the_same sections others keyed plain.0 plain.1
+mean_the_same sections others keyed (inr plain) = plain_reordered_means_the_same sections others keyed plain.0 plain.1
 
 pub in_any_order : (list : List code.Section) (result : Result Tree Fault) → Resolves list result
     → ResolvesInAnyOrder list result

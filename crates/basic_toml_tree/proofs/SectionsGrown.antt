@@ -3,7 +3,7 @@
 use Rattle.std.proofs.Common.{◌≡◌, inl, inr, suc, ◌+◌, ◌<◌, ◌≤◌, true, false, List, [], ◌∷◌, ◌++◌, Some, None, is_some}
 use Rattle.std.proofs.Common.{if◌then◌else◌, refl, ap, sym, ◌∙◌, arith, reverse, ◌⊎◌, ℕ, map, length, Option}
 use Rattle.std.proofs.Common.{◌==◌, take, drop, get_or, Result, Ok, Err, IsErrAnd, Vec, Global}
-use Rattle.std.proofs.lemmas.Bool.{not-true, false≢true, eqb-true, eqb-false}
+use Rattle.std.proofs.lemmas.Bool.{not-true, false≢true, eqb-false}
 use Rattle.basic_toml_value.specs.Nesting.{nesting_limit}
 use Rattle.basic_toml_grammar.specs.Sections.{Section, texts, Key}
 use Rattle.basic_toml_grammar.specs.RowClash.{rows_clash}
@@ -113,8 +113,7 @@ clash_is : (o : Option Obstacle) (c : Clash) (fault : Fault) (s : code.Section) 
 clash_is o c fault s met (inl is) = inl is
 clash_is o Memory fault s met (inr is) = inl is
 clash_is o Deep fault s met (inr is) = inr (too_deep, met, is)
-clash_is o c fault s met (inr is) =
-    inr (in_the_way met.0, met.1.1, is ∙ ap (stop_fault (section_of s)) (sym met.1.0))
+clash_is o c fault s met (inr is) = inr (in_the_way met.0, met.1.1, is ∙ ap (stop_fault (section_of s)) (sym met.1.0))
 
 -- what a section does to a table that takes it
 pub record GoesIn (s : Section) (n : ℕ) (root after : Table) : Type 0 where
@@ -205,9 +204,7 @@ module _ {old now : List code.Section} {n : ℕ} {headers : List (ℕ × List Ke
   more = rw (map_more section_of old n s (omega (arith, goes.count)), was) refl
 
   counted_headers : n ≡ length headers
-  counted_headers =
-      let heads = ap length goes.have.heads ∙ length-map (map section_of (take n old)) head in
-      omega (arith, goes.count, heads, length-map (take n old) section_of, length-take-le n old)
+  counted_headers = omega (arith, goes.count, simp length-map at (ap length goes.have.heads), length-take-le n old)
 
   pub goes_on : (next : List code.Section) (more_headers : List (ℕ × List Key)) (after : Table)
       → GoesIn (section_of s) n root after → length next ≡ length now
@@ -221,25 +218,18 @@ module _ {old now : List code.Section} {n : ℕ} {headers : List (ℕ × List Ke
 
   -- a section that is not entered, and its fault
   pub stays_out : first_crossed (map section_of old) ≡ None → (c : Clash) (fault : Fault)
-      → NamesObstacle (first_obstacle (section_of s) (table_trie root)) c
-      → (after : code.Section) → after.at ≡ s.at → after.header ≡ s.header
-      → NamesClash after c fault → IsUnresolved (map section_of old) fault
+      → NamesObstacle (first_obstacle (section_of s) (table_trie root)) c → (after : code.Section) → after.at ≡ s.at
+      → after.header ≡ s.header → NamesClash after c fault → IsUnresolved (map section_of old) fault
   stays_out none c fault met after same header names =
       rw split (kept_out goes.have s (map section_of (drop (suc n) old)) (rw split at none) c fault met after same
       header names)
 
 -- what is answered where memory is refused, where a row goes on from a value, and at the end
-listed : (ss : Vec code.Section Global) → (vec_len ss == 0) ≡ false → map section_of ss.items ≡ [] → ⊥
-listed ss some none =
-    eqb-false (vec_len ss) 0 some (omega (arith, ss.ok.0, ap length none, length-map ss.items section_of))
-
 pub want_of : (ss : Vec code.Section Global) (r : Result Tree Fault) → (vec_len ss == 0) ≡ false
     → IsErrAnd r (λ f. f ≡ want_of_memory) → Resolves ss.items r
 want_of ss (Ok tree) some is = absurd is
-want_of ss (Err fault) some is = λ keyed. rw is (memory (listed ss some))
-
-pub none_left : (ss : Vec code.Section Global) → (vec_len ss == 0) ≡ true → length ss.items ≤ 0
-none_left ss none = omega (arith, ss.ok.0, eqb-true (vec_len ss) 0 none)
+want_of ss (Err fault) some is = λ keyed. rw is (memory (λ none.
+    eqb-false (vec_len ss) 0 some (omega (arith, ss.ok.0, simp length-map at (ap length none)))))
 
 pub resolved : {old now : List code.Section} {n : ℕ} (tree : Tree) → Goes old now n tree.headers tree.root
     → length old ≤ n → all_keyed (map section_of old) ≡ true → IsResolved (map section_of old) tree

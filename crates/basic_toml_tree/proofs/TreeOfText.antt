@@ -50,10 +50,10 @@ pub record IsRestSoFar (reader : SectionReader) (list : List Section) (found : O
   pub so_far : SoFar reader (list ++ later)
   pub first : found ≡ first_crossed later
 
-pub rest_goes_on : {old reader : SectionReader} {list : List Section} {found : Option ℕ} (s : Section)
-    (rest : IsRestSoFar old list found) → SoFar reader ((list ++ rest.later) ++ s ∷ []) → {here : Option ℕ}
-    → here ≡ crossed_in s.rows → IsRestSoFar reader list (option_or found here)
-rest_goes_on {old} {reader} {list} {found} s rest so_far {here} is = record {
+pub rest_goes_on : {old reader : SectionReader} {list : List Section} {found here : Option ℕ} (s : Section)
+    (rest : IsRestSoFar old list found) → SoFar reader ((list ++ rest.later) ++ s ∷ []) → here ≡ crossed_in s.rows
+    → IsRestSoFar reader list (option_or found here)
+rest_goes_on s rest so_far is = record {
   later = rest.later ++ s ∷ [];
   so_far = rw append_assoc at so_far;
   first = grind (arith, rest.first, is, crossed_joined rest.later (s ∷ []));
@@ -112,9 +112,8 @@ module _ {bytes : List ℕ} {old reader : SectionReader} {headers : List (ℕ ×
 
   -- it does not go into the tree
   pub clashes : b ≡ true → (c : Clash) (fault : Fault)
-      → NamesObstacle (first_obstacle (section_of s) (table_trie root)) c
-      → (now : code.Section) → now.at ≡ s.at → now.header ≡ s.header → TellsClash bytes grows.list now c fault
-      → AnswersText bytes (Err fault)
+      → NamesObstacle (first_obstacle (section_of s) (table_trie root)) c → (now : code.Section) → now.at ≡ s.at
+      → now.header ≡ s.header → TellsClash bytes grows.list now c fault → AnswersText bytes (Err fault)
   clashes is c fault met now same header (inl refused_text) = inl refused_text
   clashes is c fault met now same header (inr told) =
       let all = grows.list ++ told.later in

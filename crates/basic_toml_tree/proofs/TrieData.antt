@@ -21,8 +21,7 @@ use Rattle.basic_toml_grow.specs.Item.{item_trie, child_trie, table_trie, by_num
 use Rattle.basic_toml_tree.specs.Data.{data_of, child_data, table_data}
 
 -- the data at numbers
-items_numbers : (n : ℕ) (ts : List Trie)
-    → growth.items_of (bare_tries (by_numbers n ts)) ≡ items_of (map tree_data ts)
+items_numbers : (n : ℕ) (ts : List Trie) → growth.items_of (bare_tries (by_numbers n ts)) ≡ items_of (map tree_data ts)
 items_numbers n [] = refl
 items_numbers n (t ∷ ts) = ap (λ ds. item (tree_data t) ds) (items_numbers (suc n) ts)
 
@@ -61,11 +60,9 @@ entries_agree [] = refl
 entries_agree (p ∷ ps) = rw (p.1.1, entries_agree ps) refl
 
 section_agrees : (rows : List Row) → tree_data (rows_trie rows) ≡ section_data rows
-section_agrees rows =
-    rw (keys_data (Some (table false true false)) (map row_trie rows), rows_agree rows) refl
+section_agrees rows = rw (keys_data (Some (table false true false)) (map row_trie rows), rows_agree rows) refl
 
-sections_agree : (ts : List SectionTable)
-    → map tree_data (map (λ t. rows_trie t.1) ts) ≡ map (λ t. section_data t.1) ts
+sections_agree : (ts : List SectionTable) → map tree_data (map (λ t. rows_trie t.1) ts) ≡ map (λ t. section_data t.1) ts
 sections_agree [] = refl
 sections_agree (t ∷ ts) = rw (section_agrees t.1, sections_agree ts) refl
 

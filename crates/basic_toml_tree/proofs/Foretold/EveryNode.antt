@@ -32,8 +32,7 @@ in_turn sections keyed free = go (put_sections sections nothing) refl (sections_
     go : (o : Option Trie) → put_sections sections nothing ≡ o → is_some o ≡ true
         → InTurn (grow_all nothing_grown (mentions (located sections)))
     go None is e = absurd (false≢true e)
-    go (Some t) is e =
-        subst InTurn (sections_grown sections t is) (bare_in_turn t (numbers_in_turn sections t is))
+    go (Some t) is e = subst InTurn (sections_grown sections t is) (bare_in_turn t (numbers_in_turn sections t is))
 
 pub foretold_there : (sections : List Section) (p : Path) → all_keyed sections ≡ true
     → all_keyed_within sections ≡ true → has_clash sections ≡ false

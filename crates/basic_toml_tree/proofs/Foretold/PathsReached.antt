@@ -106,8 +106,7 @@ mutual
       items_reached bs 0 n n p (omega arith) h (by_step bs (number n) p e)
 
   members_reached : (bs : Branches) (j : ℕ) (k : List ℕ) (p : Path) → Counts j bs
-      → is_some (option_and_then (data_along p) (data_among (members_of bs) k)) ≡ true
-      → reaches_by bs (key k) p ≡ true
+      → is_some (option_and_then (data_along p) (data_among (members_of bs) k)) ≡ true → reaches_by bs (key k) p ≡ true
   members_reached no_branches j k p h e = e
   members_reached (branch (number i) g bs) j k p h e = members_reached bs (suc j) k p h.2 e
   members_reached (branch (key l) g bs) j k p h e =
@@ -118,8 +117,7 @@ mutual
       → reaches_by bs (number m) p ≡ true
   items_reached no_branches j n m p is h e = e
   items_reached (branch (key l) g bs) j n m p is h e = items_reached bs j n m p is h.1 e
-  items_reached (branch (number i) g bs) j zero m p is h e =
-      grind (arith, is, h.0, closed_reached g p h.1 e)
+  items_reached (branch (number i) g bs) j zero m p is h e = grind (arith, is, h.0, closed_reached g p h.1 e)
   items_reached (branch (number i) g bs) j (suc n) m p is h e =
       grind (arith, is, h.0, items_reached bs (suc j) n m p (omega (arith, is)) h.2 e)
 
@@ -156,13 +154,11 @@ mutual
 all_lead : (ms : List Mention) (g : Growth) (p : Path) → reaches (grow_all g ms) p ≡ true
     → (reaches g p || any_leads ms p) ≡ true
 all_lead [] g p e = or_left (reaches g p) (any_leads [] p) e
-all_lead (m ∷ ms) g p e =
-    grind (arith, grow_leads g m.path m.value p, all_lead ms (grow g m.path m.value) p e)
+all_lead (m ∷ ms) g p e = grind (arith, grow_leads g m.path m.value p, all_lead ms (grow g m.path m.value) p e)
 
 pub tree_leads : (ms : List Mention) (s : Step) (p : Path) → InTurn (grow_all nothing_grown ms)
     → is_some (data_along (s ∷ p) (tree_of ms)) ≡ true → any_leads ms (s ∷ p) ≡ true
-tree_leads ms s p h e =
-    all_lead ms nothing_grown (s ∷ p) (closed_reached (grow_all nothing_grown ms) (s ∷ p) h e)
+tree_leads ms s p h e = all_lead ms nothing_grown (s ∷ p) (closed_reached (grow_all nothing_grown ms) (s ∷ p) h e)
 
 abbrev Found : Origins → Path → Type 0
 Found f p = is_some (f p) ≡ true
@@ -180,8 +176,7 @@ row_found [] o d f value t p e = value (t ∷ p) e
 row_found (k ∷ []) o d f value t [] e = grind (arith, turn_eq t (key k), value [])
 row_found (k ∷ []) o d f value t (u ∷ p) e = grind (arith, turn_eq t (key k), value (u ∷ p))
 row_found (k ∷ l ∷ ks) o d f value t [] e = grind (arith, turn_eq t (key k))
-row_found (k ∷ l ∷ ks) o d f value t (u ∷ p) e =
-    grind (arith, turn_eq t (key k), row_found (l ∷ ks) o d f value u p)
+row_found (k ∷ l ∷ ks) o d f value t (u ∷ p) e = grind (arith, turn_eq t (key k), row_found (l ∷ ks) o d f value u p)
 
 mutual
   value_found : (s at : ℕ) (v : Raw) (p : Path) → is_some (data_along p (finished v)) ≡ true
@@ -212,8 +207,7 @@ mutual
 one_step : (r t : Step) (w p : Path) (rows : Rows) → any_leads (row_mentions (r ∷ w) rows) (t ∷ p) ≡ true
     → (step_eq r t ≡ true) × (any_leads (row_mentions w rows) p ≡ true)
 one_step r t w p no_rows e = absurd (false≢true e)
-one_step r t w p (row keys at v rows) e =
-    (grind (arith, one_step r t w p rows), grind (arith, one_step r t w p rows))
+one_step r t w p (row keys at v rows) e = (grind (arith, one_step r t w p rows), grind (arith, one_step r t w p rows))
 
 rows_along : (n : ℕ) (rows : Rows) (w p : Path) → begins p w ≡ false → any_leads (row_mentions w rows) p ≡ true
     → Found (along w (rows_origins n rows)) p

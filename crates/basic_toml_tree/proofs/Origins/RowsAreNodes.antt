@@ -39,8 +39,7 @@ Same n o = option_map of_node n ≡ option_map of_origin o
 
 -- a row, by how its keys begin a path
 abbrev by_keys : Path → Origin → Origins → Path → Option Origin
-by_keys steps o f p =
-    if begins steps p then f (drop (length steps) p) else if begins p steps then Some o else None
+by_keys steps o f p = if begins steps p then f (drop (length steps) p) else if begins p steps then Some o else None
 
 keys_begin : (ks : KeyTexts) (o : Origin) (f : Origins) (r : Step) (q : Path)
     → row_origins ks o f (r ∷ q) ≡ by_keys (steps_of ks) o f (r ∷ q)

@@ -34,8 +34,7 @@ ways_are : (st : List Mark) (a : Bool) (cut : Path) (keys : KeyTexts)
     → way a keys (descend cut (trie_of st)) ≡ path_from (λ p. count_at st p) a cut keys
 ways_are st a cut [] = refl
 ways_are st true cut (k ∷ []) = ap (λ n. key k ∷ number n ∷ []) (counted st cut k)
-ways_are st false cut (k ∷ []) =
-    grind (arith, counted st cut k, one (count_at st (cut ++ key k ∷ [])))
+ways_are st false cut (k ∷ []) = grind (arith, counted st cut k, one (count_at st (cut ++ key k ∷ [])))
   where
     one : (n : ℕ) → key k ∷ way_on (λ t. []) n (below (key k) (descend cut (trie_of st))) ≡ (key k ∷ latest n) ++ []
     one n = grind arith

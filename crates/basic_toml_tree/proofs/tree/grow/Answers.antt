@@ -2,7 +2,7 @@ use Rattle.std.proofs.Common.{◌∙◌, sym, arith, rules}
 use Rattle.std.proofs.lemmas.List.{length-set, get_or-set_other}
 use Rattle.basic_toml_tree.specs.FirstStop.{value}
 use Rattle.basic_toml_tree.specs.Resolve.{refused}
-use Rattle.basic_toml_tree.proofs.SectionsGrown.{want_of, stays_out, goes_on, resolved, begins, none_left, none_there}
+use Rattle.basic_toml_tree.proofs.SectionsGrown.{want_of, stays_out, goes_on, resolved, begins, none_there}
 use Rattle.basic_toml_tree.proofs.tree.grow.Goals as goal
 
 pub returns-in_err-at : goal.returns-in_err-at
@@ -47,7 +47,7 @@ loop-number-preserved c =
 pub returns-then-is_empty : goal.returns-then-is_empty
 returns-then-is_empty c = λ keyed.
     resolved _ (begins c.args.sections.items _ _ c.new.ensures c.empty.ensures)
-    (none_left c.args.sections (sym c.is_empty.ensures ∙ c.if-is_empty.true)) keyed
+    (grind (arith, c.args.sections.ok.0, c.is_empty.ensures, c.if-is_empty.true)) keyed
 
 pub returns : goal.returns
 returns c = λ keyed.

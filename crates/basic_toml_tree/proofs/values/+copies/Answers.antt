@@ -1,8 +1,7 @@
 use Rattle.std.proofs.Common.{ap, arith, sym, ◌∙◌, map}
-use Rattle.basic_toml_value.specs.Data.{items_of}
 use Rattle.basic_toml_value.specs.View.{view}
 use Rattle.basic_toml_value.specs.Entries.{texts_of}
-use Rattle.basic_toml_value.proofs.Sizes.{data_size, items_size}
+use Rattle.basic_toml_value.proofs.Sizes.{data_size}
 use Rattle.basic_toml_plain.specs.Plain.{element_data, rows_data}
 use Rattle.basic_toml_plain.specs.PlainTables.{tables_in}
 use Rattle.basic_toml_plain.specs.Values.{section_data}

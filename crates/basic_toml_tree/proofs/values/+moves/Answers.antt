@@ -1,7 +1,6 @@
 use Rattle.std.proofs.Common.{◌≡◌, List, ◌∷◌, ◌++◌, map, ap, arith, sym, ◌∙◌, refl}
-use Rattle.basic_toml_value.specs.Data.{items_of}
 use Rattle.basic_toml_value.specs.View.{view}
-use Rattle.basic_toml_value.proofs.Sizes.{data_size, items_size}
+use Rattle.basic_toml_value.proofs.Sizes.{data_size}
 use Rattle.basic_toml_plain.specs.Values.{value_pair}
 use Rattle.basic_toml_plain.proofs.DataParts.{items_size-rest, items_size-front, items_size-last, members_size-rest}
 use Rattle.basic_toml_plain.proofs.DataParts.{table_seen, entries_seen}
