@@ -112,12 +112,10 @@ record SaysSome (e : Option ℕ) (rs : Rows) (t q : Path) : Type 0 where
 
 way_said : (e : Option ℕ) (rs : Rows) (t q : Path) → begins q (t ++ step_into e) ≡ true → SaysSome e rs t q
 way_said None rs [] [] b = record { kind = named; says = names; header = refl; array = λ n. n }
-way_said None rs [] (s ∷ q) b = absurd (false≢true b)
 way_said (Some n) rs [] [] b = record { kind = added; says = adds; header = refl; array = λ n. n }
 way_said (Some n) rs [] (s ∷ []) b =
     let same : s ≡ number n = step_is s (number n) (and_parts _ _ b).0 in
     rw same (record { kind = named; says = into names; header = refl; array = λ n. n })
-way_said (Some n) rs [] (s ∷ r ∷ q) b = absurd (false≢true (and_parts _ _ b).1)
 way_said e rs (key k ∷ t) [] b = record { kind = passed; says = passes; header = refl; array = λ n. n }
 way_said e rs (number n ∷ t) [] b = record { kind = by_latest; says = goes_by; header = refl; array = λ n. n }
 way_said e rs (s ∷ t) (r ∷ q) b =
@@ -125,6 +123,7 @@ way_said e rs (s ∷ t) (r ∷ q) b =
     let same : r ≡ s = step_is r s both.0 in
     let x = way_said e rs t q both.1 in
     rw same (record { kind = x.kind; says = on x.says; header = x.header; array = x.array })
+way_said e rs [] q b = absurd (grind arith)
 
 abbrev goes_into : Path → Path → Bool
 goes_into q path = begins q path && is_number (drop (length q) path)
@@ -187,8 +186,7 @@ module _ (ss : List Section) (st : List Mark) (e : enter_all ss [] ≡ Some st) 
   on_the_way : {p : Path} (k : MarkKind) → is_header k ≡ true → Saying p k
       → list_any (λ l. begins p (path_of l)) (placed ss) ≡ true
   on_the_way {p = p} k h x =
-      of_any (λ l. begins p (path_of l)) x.among
-      (way x.place.element x.place.target p k (role x.says h))
+      of_any (λ l. begins p (path_of l)) x.among (way x.place.element x.place.target p k (role x.says h))
 
   made_forth : (p : Path) → list_any (λ l. begins p (path_of l)) (placed ss) ≡ true
       → stands_made (standing_at st p) ≡ true
@@ -246,5 +244,4 @@ module _ (ss : List Section) (st : List Mark) (e : enter_all ss [] ≡ Some st) 
 
   pub array_is : (p : Path) → is_array (located ss) p ≡ stands_array (standing_at st p)
   array_is p =
-      same_paths (goes_into p) ss
-      ∙ same_truth _ _ (array_forth p) (array_back p (standing_at st p) (shown st p))
+      same_paths (goes_into p) ss ∙ same_truth _ _ (array_forth p) (array_back p (standing_at st p) (shown st p))

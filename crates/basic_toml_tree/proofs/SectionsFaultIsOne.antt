@@ -72,9 +72,8 @@ module _ (sections : List Section) (keyed : all_keyed sections ≡ true) (none :
   one_stop a b (later more e) = absurd (passed b a more e)
 
 pub sections_fault_is_one : SectionsFaultIsOne
+sections_fault_is_one sections _ _ keyed (section none a) (section none' b) =
+    one_stop sections keyed none a b (splits a.before b.before a.here b.here a.later b.later (sym a.parts ∙ b.parts))
 sections_fault_is_one sections _ _ keyed (value e) (value f) = cc
 sections_fault_is_one sections _ _ keyed (value e) (section none b) = cc
 sections_fault_is_one sections _ _ keyed (section none a) (value f) = cc
-sections_fault_is_one sections _ _ keyed (section none a) (section none' b) =
-    one_stop sections keyed none a b
-    (splits a.before b.before a.here b.here a.later b.later (sym a.parts ∙ b.parts))

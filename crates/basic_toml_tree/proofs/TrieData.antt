@@ -47,15 +47,10 @@ all_agree : {A : Type 0} (f : A → Trie) (g : A → Data) (xs : List ((x : A) �
 all_agree f g [] = refl
 all_agree f g (e ∷ es) = rw (e.1, all_agree f g es) refl
 
-abbrev tries_of_entries : List (List ℕ × Child) → List (List ℕ × Data)
-tries_of_entries ps =
-    map (λ (p : List ℕ × Trie). (p.0, tree_data p.1)) (map (λ (p : List ℕ × Child). (p.0, child_trie p.1)) ps)
-
-abbrev data_of_entries : List (List ℕ × Child) → List (List ℕ × Data)
-data_of_entries ps = map (λ (p : List ℕ × Child). (p.0, child_data p.1)) ps
-
 entries_agree : (ps : List (List ℕ × ((c : Child) × OfChild c)))
-    → tries_of_entries (map (λ p. (p.0, p.1.0)) ps) ≡ data_of_entries (map (λ p. (p.0, p.1.0)) ps)
+    → let entries = map {B = List ℕ × Child} (λ p. (p.0, p.1.0)) ps in
+    map {B = List ℕ × Data} (λ p. (p.0, tree_data p.1)) (map {B = List ℕ × Trie} (λ p. (p.0, child_trie p.1)) entries)
+    ≡ map (λ p. (p.0, child_data p.1)) entries
 entries_agree [] = refl
 entries_agree (p ∷ ps) = rw (p.1.1, entries_agree ps) refl
 

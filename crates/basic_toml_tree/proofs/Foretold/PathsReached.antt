@@ -68,8 +68,7 @@ mutual
 grow_rows : (rows : Rows) (g : Growth) → InTurn g → InTurn (grow_all g (row_mentions [] rows))
 grow_rows no_rows g h = h
 grow_rows (row keys at v rows) g h =
-    grow_rows rows (grow g (steps_of (texts keys)) (Some (finished v)))
-    (grow_keys (texts keys) (Some (finished v)) g h)
+    grow_rows rows (grow g (steps_of (texts keys)) (Some (finished v))) (grow_keys (texts keys) (Some (finished v)) g h)
 
 pub rows_in_turn : (rows : Rows) → InTurn (grow_all nothing_grown (row_mentions [] rows))
 rows_in_turn rows = grow_rows rows nothing_grown tt
@@ -211,8 +210,7 @@ one_step r t w p (row keys at v rows) e = (grind (arith, one_step r t w p rows),
 
 rows_along : (n : ℕ) (rows : Rows) (w p : Path) → begins p w ≡ false → any_leads (row_mentions w rows) p ≡ true
     → Found (along w (rows_origins n rows)) p
-rows_along n rows [] [] not e = absurd (false≢true (sym not))
-rows_along n rows (r ∷ w) [] not e = absurd (false≢true (sym not))
+rows_along n rows w [] not e = absurd (false≢true (sym not))
 rows_along n rows [] (t ∷ p) not e = rows_found n rows t p e
 rows_along n rows (r ∷ w) (t ∷ p) not e = grind (arith, turn_eq t r, one_step r t w p rows e, rows_along n rows w p)
 

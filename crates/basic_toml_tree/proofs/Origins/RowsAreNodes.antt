@@ -49,19 +49,16 @@ keys_begin (k ∷ ks) o f r q = grind (arith, turn_eq (key k) r)
 
 pub goes_on : (p x q : Path) → begins p x ≡ true → begins x q ≡ true → begins p q ≡ true
 goes_on [] x q a b = refl
-goes_on (s ∷ p) [] q a b = absurd (false≢true a)
-goes_on (s ∷ p) (t ∷ x) [] a b = absurd (false≢true b)
 goes_on (s ∷ p) (t ∷ x) (u ∷ q) a b = grind (arith, step_is s t, goes_on p x q)
+goes_on p x q a b = absurd (cc)
 
 -- what the one begins, the other does not, where they do not overlap
 pub neither_begins : (p q x : Path) → begins p x ≡ true → overlap p q ≡ false
     → (begins q x ≡ false) × (begins x q ≡ false)
-neither_begins [] q x here apart = absurd (cc)
-neither_begins (s ∷ p) [] x here apart = absurd (cc)
-neither_begins (s ∷ p) (t ∷ q) [] here apart = absurd (false≢true here)
 neither_begins (s ∷ p) (t ∷ q) (u ∷ x) here apart =
     let on = neither_begins p q x in
     (grind (arith, step_is s u, turn_eq u t, on), grind (arith, step_is s u, turn_eq u t, on))
+neither_begins p q x here apart = absurd (cc)
 
 -- below the value of a row no later row brings anything
 none_later : (s : ℕ) (steps : Path) (rows : Rows) (r : Step) (q : Path) → begins steps (r ∷ q) ≡ true
@@ -169,9 +166,8 @@ module _ (ls : List Located) (last : Option ℕ) (l : Located) (n : ℕ) where
 
   -- and elsewhere
   apart_after : (w steps p : Path) → begins w p ≡ false → begins p w ≡ false → begins p (w ++ steps) ≡ false
-  apart_after [] steps p not back = absurd (false≢true (sym not))
-  apart_after (s ∷ w) steps [] not back = absurd (false≢true (sym back))
   apart_after (s ∷ w) steps (t ∷ p) not back = grind (arith, turn_eq s t, apart_after w steps p)
+  apart_after w steps p not back = absurd (cc)
 
   along_apart : (w p : Path) (f : Origins) → begins w p ≡ false → along w f p ≡ None
   along_apart [] p f not = absurd (false≢true (sym not))
