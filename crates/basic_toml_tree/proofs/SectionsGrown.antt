@@ -38,8 +38,7 @@ use Rattle.basic_toml_grow.specs.Ways.{way, GrowsAlong, MarksTable}
 use Rattle.basic_toml_grow.proofs.Origins.OriginsSeen.{fresh_within}
 use Rattle.basic_toml_tree.specs.declared.tree.Tree.{Tree}
 use Rattle.basic_toml_tree.specs.Resolve.{IsResolved, IsUnresolved, memory, refused, head, Resolves}
-use Rattle.basic_toml_tree.proofs.Origins.SectionsPlaceOrigins.{ComeFrom, none_come, more_come}
-use Rattle.basic_toml_tree.proofs.Origins.WaysAreLocated.{way_is}
+use Rattle.basic_toml_tree.proofs.Origins.SectionsPlaceOrigins.{way_is, ComeFrom, none_come, more_come}
 use Rattle.basic_toml_tree.proofs.Nodes.RowNodesTold.{not_led}
 use Rattle.basic_toml_tree.proofs.SectionsStopped.{same_obstacle_fault, crossed_named, keyed_parts, level_there}
 use Rattle.basic_toml_tree.proofs.TrieData.{table_trie_data}

@@ -91,10 +91,9 @@ among_branches (number n) bs = slice_get (listed (items_of bs)) n
 
 by_step : (bs : Branches) (s : Step) (p : Path) → is_some (data_along (s ∷ p) (closed_branches bs)) ≡ true
     → is_some (option_and_then (data_along p) (among_branches s bs)) ≡ true
-by_step (branch (key l) g bs) (number n) p e = absurd (false≢true e)
-by_step (branch (number i) g bs) (key k) p e = absurd (false≢true e)
-by_step no_branches (key k) p e = e
-by_step bs s p e = e
+by_step (branch (key l) g bs) (key k) p e = e
+by_step (branch (number i) g bs) (number n) p e = e
+by_step bs s p e = grind arith
 
 mutual
   closed_reached : (g : Growth) (p : Path) → InTurn g → is_some (data_along p (closed g)) ≡ true → reaches g p ≡ true
