@@ -4,8 +4,8 @@ use Rattle.std.proofs.Common.{Some, None, true, false, cond, length, ◌==◌, R
 use Rattle.std.specs.Option.{option_map}
 use Rattle.std.specs.Str.{bytes_eq}
 use Rattle.std.proofs.lemmas.List.{map-append}
+use Rattle.std.proofs.lemmas.Simd.{map-map}
 use Rattle.basic_toml_value.specs.Data.{Data, Members, items_of, members_of}
-use Rattle.basic_toml_value.specs.Text.{text_bytes}
 use Rattle.basic_toml_value.specs.Entries.{seen, texts_of}
 use Rattle.basic_toml_value.specs.Pairs.{keys_of, value_at}
 use Rattle.basic_toml_value.specs.View.{view}
@@ -93,12 +93,7 @@ sections_item tables = search (rules, the_lemmas)
 -- copies of the same pairs have the same keys
 pub keys_copied : (copies : List (Pair values.Value)) (pairs : List (Pair Child)) (old : List (List ℕ × Child))
     → map value_pair copies ≡ map child_pair pairs → seen pairs ≡ old → keys_of old ≡ texts_of copies
-keys_copied copies pairs old same is =
-    ap keys_of (sym is) ∙ child_keys pairs ∙ ap (map (λ p. p.0)) (sym same) ∙ sym (value_keys copies)
-  where
-    child_keys : (pairs : List (Pair Child)) → keys_of (seen pairs) ≡ map (λ p. p.0) (map child_pair pairs)
-    child_keys [] = refl
-    child_keys (p ∷ ps) = ap (λ l. text_bytes p.key ∷ l) (child_keys ps)
+keys_copied copies pairs old same is = rw (← is, value_keys copies, same, ← pairs_seen pairs) (simp map-map)
 
 -- what an array is seen as that has the tables before and the latest
 pub tables_seen : (before next : Vec values.Value Global) (v : values.Value)
@@ -115,9 +110,7 @@ data_among-members (p ∷ ps) key = ap (cond (bytes_eq key p.0) (Some p.1)) (dat
 
 data_at_key : (t : Table) (key : List ℕ)
     → data_at (table_data t) key ≡ option_map child_data (value_at (out-Table t).entries key)
-data_at_key t key =
-    rw (table_members t) (data_among-members (map (λ p. (p.0, child_data p.1)) (out-Table t).entries) key
-    ∙ value_at-map child_data (out-Table t).entries key)
+data_at_key t key = rw (table_members t, data_among-members, value_at-map child_data) refl
 
 pub data_at_found : (t : Table) (key : List ℕ) (c : Child) → value_at (out-Table t).entries key ≡ Some c
     → data_at (table_data t) key ≡ Some (child_data c)

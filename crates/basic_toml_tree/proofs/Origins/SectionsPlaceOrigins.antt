@@ -73,13 +73,11 @@ put_way : (earlier : List Section) (s : Section) (t : Trie) → all_keyed earlie
 put_way earlier s t keyed e =
     let r : (st : List Mark) × (enter_all earlier [] ≡ Some st) × (t ≡ trie_of st) = marks_put earlier t e in
     let past : Past (onto earlier []) r.0 = entered earlier r.0 keyed r.1 in
-    ap (λ t. way s.is_array (texts s.header) t) r.2
-    ∙ ways_are r.0 s.is_array [] (texts s.header)
-    ∙ ap path_of
+    rw (r.2, ways_are r.0 s.is_array [] (texts s.header), path_is s (reverse earlier))
+    (ap path_of
     (offset_same (λ p. count_at r.0 p) (λ p. elements_at p (offsets (onto earlier [])))
     (λ p. past.sized p ∙ past.counted p) s)
-    ∙ ap (λ before. path_of (placed_after (offsets before) s)) (onto_all earlier [] ∙ append_none (reverse earlier))
-    ∙ sym (path_is s (reverse earlier))
+    ∙ ap (λ before. path_of (placed_after (offsets before) s)) (onto_all earlier [] ∙ append_none (reverse earlier)))
 
 pub way_is : (earlier : List Section) (s : Section) (t : Trie) → all_keyed earlier ≡ true → Stands earlier t
     → way s.is_array (texts s.header) t ≡ (located_after (reverse earlier) s).path

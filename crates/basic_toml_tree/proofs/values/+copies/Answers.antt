@@ -2,9 +2,6 @@ use Rattle.std.proofs.Common.{ap, arith, sym, ◌∙◌, map}
 use Rattle.basic_toml_value.specs.View.{view}
 use Rattle.basic_toml_value.specs.Entries.{texts_of}
 use Rattle.basic_toml_value.proofs.Sizes.{data_size}
-use Rattle.basic_toml_plain.specs.Plain.{element_data, rows_data}
-use Rattle.basic_toml_plain.specs.PlainTables.{tables_in}
-use Rattle.basic_toml_plain.specs.Values.{section_data}
 use Rattle.basic_toml_plain.proofs.DataParts.{items_size-at, items_size-front, items_size-last, members_size-at}
 use Rattle.basic_toml_plain.proofs.DataParts.{mapped_more, sections_seen, table_seen, entries_seen}
 use Rattle.basic_toml_tree.specs.Data.{data_of, child_data, table_data, child_pair}
@@ -79,19 +76,15 @@ value_of-returns-in_ok-push-in-Tables t c =
 
 pub value_of-returns-in_ok-plain_values-in-Plain : goal.value_of-returns-in_ok-plain_values-in-Plain
 value_of-returns-in_ok-plain_values-in-Plain t c =
-    plain_seen c.in_ok-plain_values-in-Plain.field-0 c.in-Plain.array
-    (c.in_ok-plain_values-in-Plain.ensures ∙ ap (map element_data) c.elements.ensures.elements)
-    ∙ sym (ap data_of c.in-Plain.is)
+    rw c.in-Plain.is (plain_seen _ _ (rw c.elements.ensures.elements at c.in_ok-plain_values-in-Plain.ensures))
 
 pub value_of-returns-in_ok-plain_table-in-Section : goal.value_of-returns-in_ok-plain_table-in-Section
 value_of-returns-in_ok-plain_table-in-Section t c =
-    table_seen c.in_ok-plain_table-in-Section.field-0
-    ∙ c.in_ok-plain_table-in-Section.ensures.table ∙ ap rows_data c.rows-in-Section.ensures.rows
-    ∙ sym (ap data_of c.in-Section.is ∙ section_rows c.in-Section.table c.rows-in-Section.ensures.plain)
+    let rows = c.rows-in-Section.ensures in
+    rw (c.in-Section.is, section_rows c.in-Section.table rows.plain, ← rows.rows, table_seen)
+    c.in_ok-plain_table-in-Section.ensures.table
 
 pub value_of-returns-in_ok-plain_tables-in-Sections : goal.value_of-returns-in_ok-plain_tables-in-Sections
 value_of-returns-in_ok-plain_tables-in-Sections t c =
-    sections_seen c.in_ok-plain_tables-in-Sections.field-0 c.in-Sections.tables.value
-    (c.in_ok-plain_tables-in-Sections.ensures
-    ∙ ap (λ ts. map (λ t. section_data t.1) (tables_in ts)) c.deref-in-Sections.ensures)
-    ∙ sym (ap data_of c.in-Sections.is ∙ sections_item c.in-Sections.tables)
+    rw (c.in-Sections.is, sections_item c.in-Sections.tables)
+    (sections_seen _ _ (rw c.deref-in-Sections.ensures at c.in_ok-plain_tables-in-Sections.ensures))
