@@ -1,5 +1,5 @@
 -- A list that has no tree has one fault.
-use Rattle.std.proofs.Common.{◌≡◌, inl, inr, true, List, [], ◌∷◌, ◌++◌, None, refl, ap, sym, ◌∙◌, arith}
+use Rattle.std.proofs.Common.{◌≡◌, inl, inr, true, List, [], ◌∷◌, ◌++◌, None, refl, sym, ◌∙◌, arith}
 use Rattle.std.specs.List.{Contains}
 use Rattle.std.proofs.lemmas.Bool.{false≢true}
 use Rattle.basic_toml_grammar.specs.Sections.{Section, texts}
@@ -9,10 +9,9 @@ use Rattle.basic_toml_grammar.specs.Trie.{Trie, nothing, put_sections}
 use Rattle.basic_toml_grammar.proofs.Naming.EveryClashIsNamed.{named_clashes}
 use Rattle.basic_toml_grow.specs.Obstacles.{first_obstacle}
 use Rattle.basic_toml_grow.proofs.HeadersStopped.{met_fresh}
-use Rattle.basic_toml_grow.specs.Clash.{obstacle_fault}
 use Rattle.basic_toml_grow.specs.Crossed.{first_crossed}
 use Rattle.basic_toml_grow.proofs.ValuesOnTheWay.{none_left}
-use Rattle.basic_toml_tree.specs.FirstStop.{Stands, Entered, StopsSection, FirstStop, value}
+use Rattle.basic_toml_tree.specs.FirstStop.{Stands, Entered, FirstStop, value}
 use Rattle.basic_toml_tree.specs.FirstStop.{section, SectionsFaultIsOne}
 use Rattle.basic_toml_tree.proofs.SectionsGrown.{no_clash}
 use Rattle.basic_toml_tree.proofs.SectionsStopped.{stop_is_named, keyed_parts, crossed_joined}
@@ -41,11 +40,6 @@ alike : (before : List Section) (s : Section) (t : Trie) → Stands before t
 alike before s t (inl e) = rw e refl
 alike before s t (inr e) = rw (e.0, e.1) (met_fresh s.is_array s.rows (texts s.header) 1)
 
-same_fault : (before : List Section) (s : Section) (t u : Trie) (fault other : Fault) → Stands before t
-    → Stands before u → StopsSection t s fault → StopsSection u s other → fault ≡ other
-same_fault before s t u fault other e f (x, (met, is)) (y, (met', is')) =
-    let same : x ≡ y = cc (alike before s t e, alike before s u f) in is ∙ ap (obstacle_fault s) same ∙ sym is'
-
 module _ (sections : List Section) (keyed : all_keyed sections ≡ true) (none : first_crossed sections ≡ None) where
   -- the sections before the one stop do not hold the other: a tree takes them
   passed : {fault other : Fault} (a : FirstStop sections fault) (b : FirstStop sections other) (more : List Section)
@@ -65,9 +59,8 @@ module _ (sections : List Section) (keyed : all_keyed sections ≡ true) (none :
 
   one_stop : {fault other : Fault} (a : FirstStop sections fault) (b : FirstStop sections other)
       → Splits a.before b.before a.here b.here → fault ≡ other
-  one_stop {fault = fault} {other = other} a b (same e f) =
-      same_fault a.before a.here a.so_far b.so_far fault other a.entered.stands (rw (← e) at b.entered.stands) a.stopped
-      (rw (← f) at b.stopped)
+  one_stop a b (same e f) =
+      cc (alike a.before a.here a.so_far a.entered.stands, alike b.before b.here b.so_far b.entered.stands)
   one_stop a b (earlier more e) = absurd (passed a b more e)
   one_stop a b (later more e) = absurd (passed b a more e)
 

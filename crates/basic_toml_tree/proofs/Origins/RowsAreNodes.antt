@@ -65,12 +65,8 @@ none_later : (s : ℕ) (steps : Path) (rows : Rows) (r : Step) (q : Path) → be
     → any_overlaps steps rows ≡ false → rows_origins s rows (r ∷ q) ≡ None
 none_later s steps no_rows r q here apart = refl
 none_later s steps (row ks at v rows) r q here apart =
-    grind (
-      arith,
-      keys_begin (texts ks) (table_origin false at s) (value_origins s at v) r q,
-      neither_begins steps (steps_of (texts ks)) (r ∷ q) here,
-      none_later s steps rows r q here,
-    )
+    let first = keys_begin (texts ks) (table_origin false at s) (value_origins s at v) r q in
+    grind (arith, first, neither_begins steps (steps_of (texts ks)) (r ∷ q) here, none_later s steps rows r q here)
 
 -- one of three: below the value, a table on the way to it, or in a later row
 chosen : (a b : Bool) (m n : Option Node) (o p : Option Origin) (d : Node) (e : Origin)
