@@ -25,9 +25,8 @@ module _ (sections others : List Section) (same : MeanTheSame sections others) w
   tree_too : (tree : Tree) → IsResolved sections tree → IsAnswerToo sections (Ok tree) others
   tree_too tree is =
       let maps = same.maps is.clash in
-      let peace : has_clash others ≡ false = sym same.clash ∙ is.clash in
       let fits : depth (tree_of_sections others) ≤ nesting_limit = rw (same_maps_are_as_deep _ _ maps) at is.fits in
-      rw (peace, le-leb (depth (tree_of_sections others)) nesting_limit fits, is.grown) maps
+      rw (← same.clash, is.clash, le-leb (depth (tree_of_sections others)) nesting_limit fits, is.grown) maps
 
   -- they are refused too, where these clash or are too deep
   refused_too : (fault : Fault) → (has_clash sections ≡ false → nesting_limit < depth (tree_of_sections sections))

@@ -32,9 +32,8 @@ pub returns-in-Err-enter_section : goal.returns-in-Err-enter_section
 returns-in-Err-enter_section c =
     let grows = c.loop-stop.invariant.0 in
     let kept = c.in-Err-enter_section.ensures in
-    clashes grows c.in-Ok-true.ensures c.in-Ok-true.field-0-test c.in-Err-enter_section.clash c.clash_error.result
-    kept.named c.enter_section.new.section kept.at kept.header
-    (c.clash_error.ensures grows.list (rw (grows.text, ← c.place-place.ensures) at grows.so_far))
+    clashes grows c.in-Ok-true.ensures c.in-Ok-true.field-0-test _ _ kept.named c.enter_section.new.section kept.at
+    kept.header (c.clash_error.ensures grows.list (rw (grows.text, ← c.place-place.ensures) at grows.so_far))
 
 -- it goes in
 pub loop-stop-preserved : goal.loop-stop-preserved
@@ -47,8 +46,7 @@ loop-stop-preserved c =
         text = text_is grows read;
         ready = read.ready;
         so_far = so_far_on grows read c.in-Ok-true.field-0-test;
-        have = more_entered grows.have (section_of c.next.new.section) c.len-number.result c.enter_section.new.root
-            c.push.new.self c.len-number.ensures
+        have = more_entered grows.have _ _ _ _ c.len-number.ensures
             (record { is_in = new.entered; grows = new.origins; marks = new.marks })
             (rw (new.at, new.header) at c.in_ok-push.ensures.ok);
       },
@@ -57,5 +55,4 @@ loop-stop-preserved c =
 
 pub returns-in_err-push : goal.returns-in_err-push
 returns-in_err-push c =
-    wants_memory c.loop-stop.invariant.0 c.in-Ok-true.ensures c.in-Ok-true.field-0-test _ c.from_residual.result
-    c.from_residual.ensures.1
+    wants_memory c.loop-stop.invariant.0 c.in-Ok-true.ensures c.in-Ok-true.field-0-test _ _ c.from_residual.ensures.1

@@ -7,8 +7,7 @@ use Rattle.basic_toml_tree.proofs.tree.grow.Goals as goal
 
 pub returns-in_err-at : goal.returns-in_err-at
 returns-in_err-at c =
-    want_of c.args.sections c.from_residual.result (sym c.is_empty.ensures ∙ c.if-is_empty.false)
-    c.from_residual.ensures.1
+    want_of c.args.sections _ (sym c.is_empty.ensures ∙ c.if-is_empty.false) c.from_residual.ensures.1
 
 pub returns-in-Some : goal.returns-in-Some
 returns-in-Some c = λ keyed.
@@ -21,13 +20,12 @@ returns-in-Err c = λ keyed.
     (omega (arith, c.len-number-end.ensures, c.loop-number-test.true, c.loop-number.invariant.count))
     (search (rules, c.index_mut-section.ensures.value))
     (rw (← c.as_slice.ensures.value, ← c.in_ok-at.ensures) (none_there c.in_ok-at.field-0 c.in_default.not-Some))
-    c.in-Err.clash c.error.result c.in-Err.ensures.named c.enter_section.new.section c.enter_section.ensures.at
-    c.enter_section.ensures.header c.error.ensures
+    _ _ c.in-Err.ensures.named c.enter_section.new.section c.enter_section.ensures.at c.enter_section.ensures.header
+    c.error.ensures
 
 pub returns-in_err-push : goal.returns-in_err-push
 returns-in_err-push c =
-    want_of c.args.sections c.from_residual-in_err-push.result (sym c.is_empty.ensures ∙ c.if-is_empty.false)
-    c.from_residual-in_err-push.ensures.1
+    want_of c.args.sections _ (sym c.is_empty.ensures ∙ c.if-is_empty.false) c.from_residual-in_err-push.ensures.1
 
 pub loop-number-init : goal.loop-number-init
 loop-number-init c = begins _ _ _ c.new-headers.ensures c.empty-root.ensures
