@@ -11,8 +11,7 @@ use Rattle.basic_toml_grow.specs.Obstacles.{first_obstacle}
 use Rattle.basic_toml_grow.proofs.HeadersStopped.{met_fresh}
 use Rattle.basic_toml_grow.specs.Crossed.{first_crossed}
 use Rattle.basic_toml_grow.proofs.ValuesOnTheWay.{none_left}
-use Rattle.basic_toml_tree.specs.FirstStop.{Stands, Entered, FirstStop, value}
-use Rattle.basic_toml_tree.specs.FirstStop.{section, SectionsFaultIsOne}
+use Rattle.basic_toml_tree.specs.FirstStop.{Stands, Entered, FirstStop, value, section, SectionsFaultIsOne}
 use Rattle.basic_toml_tree.proofs.SectionsGrown.{no_clash}
 use Rattle.basic_toml_tree.proofs.SectionsStopped.{stop_is_named, keyed_parts, crossed_joined}
 

@@ -68,9 +68,8 @@ value_of-table_of-requires-in-Tables t c =
 
 pub value_of-returns-in_ok-push-in-Tables : goal.value_of-returns-in_ok-push-in-Tables
 value_of-returns-in_ok-push-in-Tables t c =
-    let tables = c.in-Tables.tables in
     rw c.in-Tables.is
-    (tables_seen c.in_ok-elements-in-Tables.elements c.push.new.self _ tables c.in_ok-push-in-Tables.ensures.items
+    (tables_seen c.in_ok-elements-in-Tables.elements _ _ c.in-Tables.tables c.in_ok-push-in-Tables.ensures.items
     (rw (← c.deref-in-Tables.ensures, ← c.as_slice-in-Tables.ensures.value) c.in_ok-elements-in-Tables.ensures)
     (table_seen _ ∙ rw c.deref-in-Tables-2.ensures at c.in_ok-table_of-in-Tables.ensures.table))
 
