@@ -42,8 +42,7 @@ same_obstacle_fault r s header at x = grind arith
 -- no such fault is want of memory
 pub stops_without_memory : (t : Trie) (s : Section) (fault : Fault) → StopsSection t s fault
     → fault.kind ≡ out_of_memory → ⊥
-stops_without_memory t s fault (in_the_way is_named, (first, same)) is = cc (ap (λ (f : Fault). f.kind) same)
-stops_without_memory t s fault (met, (first, same)) is = cc (ap (λ (f : Fault). f.kind) same)
+stops_without_memory t s fault (met, (first, same)) is = grind (arith, ap (λ (f : Fault). f.kind) same)
 
 -- the first faults come first
 first_contained : (a b : List Fault) (f : Fault) → Contains a f → Contains (first_of_two a b) f

@@ -90,8 +90,7 @@ module _ {bytes : List ℕ} {old reader : SectionReader} {headers : List (ℕ ×
   -- there is none
   pub ends_well : b ≡ false → IsTreeOf bytes (record { headers = headers; root = root })
   ends_well none =
-      let is : IsList reader.text.now grows.list = rw none at (on.read grows.list grows.so_far) in
-      let here = list_of bytes grows.list (rw text_is at is) in record {
+      let here = list_of bytes grows.list (rw (none, text_is) at (on.read grows.list grows.so_far)) in record {
         sections = grows.list;
         list = here;
         resolved = entered_resolved grows.list _ grows.have (keyed (folded bytes) grows.list here.grammar)
@@ -118,10 +117,8 @@ module _ {bytes : List ℕ} {old reader : SectionReader} {headers : List (ℕ ×
   clashes is c fault met now same header (inr told) =
       let all = grows.list ++ told.later in
       let here = list_of bytes all told.is in
-      let none = none_crossed grows.have
-      (keyed_parts grows.list told.later (keyed (folded bytes) all here.grammar)).0 in
-      let all_crossed : first_crossed all ≡ first_crossed told.later =
-      crossed_joined grows.list told.later ∙ rw none refl in
+      let keys = (keyed_parts grows.list told.later (keyed (folded bytes) all here.grammar)).0 in
+      let all_crossed = rw (none_crossed grows.have keys) at (crossed_joined grows.list told.later) in
       let first = next_is_first reader grows.list (section_of s) told.later (so_far_on is) (rw text_is told.is) in
       (elim (first_crossed told.later) as (λ o. first_crossed told.later ≡ o
       → MatchOption o (NamesClash now c fault) (λ at. fault ≡ dotted_fault at) → AnswersText bytes (Err fault)) [
