@@ -13,7 +13,6 @@ use Rattle.basic_toml_grammar.specs.NestingFaults.{deep_sections, tree_level}
 use Rattle.basic_toml_grammar.specs.NamedClash.{NamesClash, dotted_fault, dotted_faults, repeated_faults_of}
 use Rattle.basic_toml_grammar.specs.NamedClash.{section_faults, first_of_two}
 use Rattle.basic_toml_value.specs.Nesting.{nesting_limit}
-use Rattle.basic_toml_grammar.specs.Stops.{is_named}
 use Rattle.basic_toml_grammar.specs.Trie.{Trie, nothing, section_level_in}
 use Rattle.basic_toml_grammar.proofs.Naming.TrieStopsAreNamed.{trie_stops_named}
 use Rattle.basic_toml_grow.specs.Clash.{Obstacle, too_deep, in_the_way, obstacle_fault}

@@ -52,9 +52,8 @@ foretold_there sections (s ∷ p) keyed within free e = elim (cases_Bool (is_mad
 
 pub every_node_of_a_list : EveryNodeOfAListIsForetold
 every_node_of_a_list sections tree p keyed within means there =
-    let free : has_clash sections ≡ false = grind arith in
     let same : tree_of_sections sections ≡ tree = grind arith in
-    foretold_there sections p keyed within free (rw same there)
+    foretold_there sections p keyed within (grind arith) (rw same there)
 
 pub every_node : EveryNodeIsForetold
 every_node text sections tree p grammar means there =

@@ -100,8 +100,7 @@ none_come origins none = record {
 last_section : (n m : ℕ) (ls : List Located) (l : Located) (p : Path) → m ≡ n + length ls
     → sections_origins n (ls ++ l ∷ []) p
     ≡ option_or (sections_origins n ls p) (along l.path (rows_origins m l.section.rows) p)
-last_section n m [] l p same =
-    let is : m ≡ n = omega arith in rw is (or_none (along l.path (rows_origins n l.section.rows) p))
+last_section n m [] l p same = grind (arith, or_none (along l.path (rows_origins m l.section.rows) p))
 last_section n m (k ∷ ls) l p same = grind (arith, last_section (suc n) m ls l p (omega arith))
 
 -- the section of a number leads on, when another one comes last
