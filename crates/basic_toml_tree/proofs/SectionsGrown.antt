@@ -140,7 +140,7 @@ module _ {list : List Section} {headers : List (ℕ × List Key)} {root : Table}
           rw (at_section list s [], deep_append, have.entered.shallow)
           (grind (arith, level_there list s (table_trie root) have.entered.stands, rw (one_more _) at goes.is_in.fits));
     };
-    heads = pushed ∙ ap (λ hs. hs ++ head s ∷ []) have.heads ∙ sym (map-append head list (s ∷ []));
+    heads = rw (pushed, have.heads, map-append) refl;
     origins = λ keyed.
         let before = (keyed_parts list (s ∷ []) keyed).0 in
         let path = way_is list s (table_trie root) before have.entered.stands in

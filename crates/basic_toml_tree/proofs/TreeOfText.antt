@@ -75,7 +75,7 @@ next_is_first reader list s later so_far is = at_place reader.place so_far
     joined None e = absurd (cc)
     joined (Some more) e =
         let same : (list ++ s ∷ []) ++ more ≡ list ++ later = cc in
-        (more, append_cancel_left list later (s ∷ more) (sym same ∙ append_assoc list (s ∷ []) more))
+        (more, append_cancel_left list later (s ∷ more) (sym (rw append_assoc at same)))
 
     at_place : (p : Place) → IsBehind reader.text.now p (list ++ s ∷ []) → (more : List Section) × (later ≡ s ∷ more)
     at_place Start so_far = absurd (some_listed list s [] so_far)

@@ -6,8 +6,7 @@ use Rattle.basic_toml_tree.proofs.SectionsGrown.{want_of, stays_out, goes_on, re
 use Rattle.basic_toml_tree.proofs.tree.grow.Goals as goal
 
 pub returns-in_err-at : goal.returns-in_err-at
-returns-in_err-at c =
-    want_of c.args.sections _ (sym c.is_empty.ensures ∙ c.if-is_empty.false) c.from_residual.ensures.1
+returns-in_err-at c = want_of c.args.sections _ (sym c.is_empty.ensures ∙ c.if-is_empty.false) c.from_residual.ensures.1
 
 pub returns-in-Some : goal.returns-in-Some
 returns-in-Some c = λ keyed.
