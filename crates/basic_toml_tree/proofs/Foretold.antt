@@ -1,5 +1,4 @@
 -- Wherever the document of a section list has data, a node is foretold.
 pub mod PathsReached
-pub mod ValuesFound
 pub mod EveryNode
 pub mod NodesForetold

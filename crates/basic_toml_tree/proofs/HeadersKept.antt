@@ -1,5 +1,5 @@
 -- The headers of sections, as they are kept and as contracts see them.
-use Rattle.std.proofs.Common.{◌≡◌, ◌≤◌, ◌<◌, ◌-◌, ℕ, zero, suc, List, [], ◌∷◌, ◌++◌, length, map, drop}
+use Rattle.std.proofs.Common.{◌≡◌, ◌≤◌, ◌-◌, ℕ, zero, suc, List, [], ◌∷◌, ◌++◌, length, map, drop}
 use Rattle.std.proofs.Common.{Some, refl, ap, arith, rules, length-append}
 use Rattle.std.specs.Prelude.{slice_get, slice_index_or, slice_range}
 use native.Mathlib.Numerals.{unary_clauses}
@@ -12,23 +12,16 @@ use Rattle.basic_toml_tree.specs.Headers.{keys_at, last_of, headers_from, range_
 use Rattle.basic_toml_tree.specs.Origin.{header_of}
 
 -- how many there are
-pub count_from : (from : ℕ) (hs : List Head) (keys : List code.Key)
-    → length (headers_from from hs keys) ≡ length hs
+pub count_from : (from : ℕ) (hs : List Head) (keys : List code.Key) → length (headers_from from hs keys) ≡ length hs
 count_from from [] keys = refl
 count_from from (h ∷ hs) keys = ap suc (count_from h.end hs keys)
 
 -- the keys of a header begin where those before them end
-range_after : (from : ℕ) (hs : List Head) (n : ℕ) (d h : Head) → slice_get hs (suc n) ≡ Some h
-    → ((slice_index_or hs n d).end, h.end) ≡ range_of from hs (suc n)
-range_after from (g ∷ i ∷ hs) zero d h there = let same : i ≡ h = cc in rw same refl
-range_after from (g ∷ i ∷ hs) (suc n) d h there = range_after g.end (i ∷ hs) n d h there
-range_after from hs n d h there = absurd (cc)
-
-pub range_past_first : (hs : List Head) (n : ℕ) (d h : Head) → 0 < n → slice_get hs n ≡ Some h
-    → ((slice_index_or hs (n - 1) d).end, h.end) ≡ range_of 0 hs n
-range_past_first hs zero d h some there = absurd (omega (arith, some))
-range_past_first hs (suc n) d h some there =
-    let same : suc n - 1 ≡ n = omega arith in rw same (range_after 0 hs n d h there)
+pub range_after : (from : ℕ) (hs : List Head) (n m : ℕ) (d h : Head) → suc n ≡ m → slice_get hs m ≡ Some h
+    → ((slice_index_or hs n d).end, h.end) ≡ range_of from hs m
+range_after from (g ∷ i ∷ hs) zero (suc zero) d h next there = let same : i ≡ h = cc in rw same refl
+range_after from (g ∷ hs) (suc n) (suc m) d h next there = range_after g.end hs n m d h (omega (arith, next)) there
+range_after from hs n m d h next there = absurd (grind arith)
 
 -- no header is past the last one
 pub no_range : (from : ℕ) (hs : List Head) (n : ℕ) → length hs ≤ n → range_of from hs n ≡ (0, 0)
@@ -56,10 +49,9 @@ keys_in_range from (h ∷ hs) keys zero = refl
 keys_in_range from (h ∷ hs) keys (suc n) = keys_in_range h.end hs keys n
 
 -- one header more, with the keys that come last
-pub one_more : (from : ℕ) (hs : List Head) (keys more : List code.Key) (h : Head)
-    → EndsRise from hs (length keys) → h.end ≡ length (keys ++ more)
-    → headers_from from (hs ++ h ∷ []) (keys ++ more)
-    ≡ headers_from from hs keys ++ (h.at, map key_of more) ∷ []
+pub one_more : (from : ℕ) (hs : List Head) (keys more : List code.Key) (h : Head) → EndsRise from hs (length keys)
+    → h.end ≡ length (keys ++ more)
+    → headers_from from (hs ++ h ∷ []) (keys ++ more) ≡ headers_from from hs keys ++ (h.at, map key_of more) ∷ []
 one_more from [] keys more h rise end =
     let last = take_all (h.end - length keys) more (omega (arith, end, length-append keys more)) in
     rw (rise, drop-append_seam keys more, last) refl

@@ -4,7 +4,7 @@ use Rattle.std.proofs.Common.{sym, ◌∙◌, map, length, drop, Option, Some, N
 use Rattle.std.specs.Prelude.{◌&&◌, ◌||◌}
 use Rattle.std.proofs.Math.Seq.{drop-append_seam}
 use Rattle.std.specs.List.{list_any}
-use Rattle.std.proofs.lemmas.Bool.{false≢true, and_parts, or_cases, or_left, or_right, cases_Bool}
+use Rattle.std.proofs.lemmas.Bool.{false≢true, and_parts, or_cases, or_left, or_right}
 use Rattle.basic_toml_grammar.specs.Sections.{Rows, Section}
 use Rattle.basic_toml_grammar.specs.Steps.{Step, key, number, Path, step_eq, begins}
 use Rattle.basic_toml_grammar.specs.IndexedPath.{located}
@@ -45,40 +45,33 @@ kept_on k m o f h = grind arith
 kept_new : (k : MarkKind) (o : Option Standing) → keeps k (Some (taken k o)) ≡ true
 kept_new k o = grind arith
 
-abbrev Keeps : List Mark → Type 0
-Keeps st = (p : Path) (k : MarkKind) → Among (mark p k) st → keeps k (standing_at st p) ≡ true
+-- marks that were taken: each fits, they are kept, and there are no others
+first_fits : (m : Mark) (st ms after : List Mark) → take_all st (m ∷ ms) ≡ Some after
+    → (fits m.kind (standing_at st m.path) ≡ true) × (take_all (m ∷ st) ms ≡ Some after)
+first_fits m st ms after e = (grind arith, grind arith)
 
-keeps_more : (m : Mark) (st : List Mark) → Keeps st → fits m.kind (standing_at st m.path) ≡ true → Keeps (m ∷ st)
-keeps_more m st h f p k first = rw (paths_same p) (kept_new k (standing_at st p))
-keeps_more m st h f p k (next a) =
-    grind (arith, paths_are m.path p, kept_on k m.kind (standing_at st p), h p k a)
+kept_after : (st ms after : List Mark) (p : Path) (k : MarkKind) → keeps k (standing_at st p) ≡ true
+    → take_all st ms ≡ Some after → keeps k (standing_at after p) ≡ true
+kept_after st [] after p k h e = grind arith
+kept_after st (m ∷ ms) after p k h e =
+    let f = first_fits m st ms after e in
+    kept_after (m ∷ st) ms after p k (grind (arith, paths_are m.path p, kept_on k m.kind (standing_at st p), f)) f.1
 
--- marks that were taken: they are kept, and there are no others
-record Ran (st ms after : List Mark) : Type 0 where
-  keep : Keeps after
-  joins : {m : Mark} → Among m st ⊎ Among m ms → Among m after
-  made : {m : Mark} → Among m after → Among m st ⊎ Among m ms
+keep : (st ms after : List Mark) (p : Path) (k : MarkKind) → Among (mark p k) ms → take_all st ms ≡ Some after
+    → keeps k (standing_at after p) ≡ true
+keep st [] after p k a e = elim a [ ]
+keep st (m ∷ ms) after p k first e =
+    kept_after (m ∷ st) ms after p k (rw (paths_same p) (kept_new k (standing_at st p))) (first_fits m st ms after e).1
+keep st (m ∷ ms) after p k (next a) e = keep (m ∷ st) ms after p k a (first_fits m st ms after e).1
 
-ran : (st ms after : List Mark) → Keeps st → take_all st ms ≡ Some after → Ran st ms after
-ran st [] after h e = let same : st ≡ after = cc in
-    rw (← same) (record { keep = h; joins = λ a. elim a [ inl a ↦ a | inr a ↦ elim a [ ] ]; made = λ a. inl a })
-ran st (m ∷ ms) after h e = elim (cases_Bool (fits m.kind (standing_at st m.path))) [
-  | inl f ↦ more (ran (m ∷ st) ms after (keeps_more m st h f) (rw f at e))
-  | inr f ↦ absurd (cc (rw f at e))
-]
+made : {m : Mark} (st ms after : List Mark) → take_all st ms ≡ Some after → Among m after → Among m st ⊎ Among m ms
+made st [] after e a = let same : st ≡ after = cc in inl (rw same a)
+made st (m ∷ ms) after e a = from (made (m ∷ st) ms after (first_fits m st ms after e).1 a)
   where
-    more : Ran (m ∷ st) ms after → Ran st (m ∷ ms) after
-    more r = record { keep = r.keep; joins = λ a. join a; made = λ a. from (r.made a) }
-      where
-        join : {x : Mark} → Among x st ⊎ Among x (m ∷ ms) → Among x after
-        join (inl a) = r.joins (inl (next a))
-        join (inr first) = r.joins (inl first)
-        join (inr (next a)) = r.joins (inr a)
-
-        from : {x : Mark} → Among x (m ∷ st) ⊎ Among x ms → Among x st ⊎ Among x (m ∷ ms)
-        from (inl first) = inr first
-        from (inl (next a)) = inl a
-        from (inr a) = inr (next a)
+    from : {x : Mark} → Among x (m ∷ st) ⊎ Among x ms → Among x st ⊎ Among x (m ∷ ms)
+    from (inl first) = inr first
+    from (inl (next a)) = inl a
+    from (inr a) = inr (next a)
 
 -- the section that a mark is of
 among_one : {m : Mark} (ls : List Placed) → Among m (all_marks ls) → (l : Placed) × Among l ls × Among m (marks l)
@@ -119,12 +112,10 @@ record SaysSome (e : Option ℕ) (rs : Rows) (t q : Path) : Type 0 where
 
 way_said : (e : Option ℕ) (rs : Rows) (t q : Path) → begins q (t ++ step_into e) ≡ true → SaysSome e rs t q
 way_said None rs [] [] b = record { kind = named; says = names; header = refl; array = λ n. n }
-way_said None rs [] (s ∷ q) b = absurd (false≢true b)
 way_said (Some n) rs [] [] b = record { kind = added; says = adds; header = refl; array = λ n. n }
 way_said (Some n) rs [] (s ∷ []) b =
     let same : s ≡ number n = step_is s (number n) (and_parts _ _ b).0 in
     rw same (record { kind = named; says = into names; header = refl; array = λ n. n })
-way_said (Some n) rs [] (s ∷ r ∷ q) b = absurd (false≢true (and_parts _ _ b).1)
 way_said e rs (key k ∷ t) [] b = record { kind = passed; says = passes; header = refl; array = λ n. n }
 way_said e rs (number n ∷ t) [] b = record { kind = by_latest; says = goes_by; header = refl; array = λ n. n }
 way_said e rs (s ∷ t) (r ∷ q) b =
@@ -132,6 +123,7 @@ way_said e rs (s ∷ t) (r ∷ q) b =
     let same : r ≡ s = step_is r s both.0 in
     let x = way_said e rs t q both.1 in
     rw same (record { kind = x.kind; says = on x.says; header = x.header; array = x.array })
+way_said e rs [] q b = absurd (grind arith)
 
 abbrev goes_into : Path → Path → Bool
 goes_into q path = begins q path && is_number (drop (length q) path)
@@ -143,19 +135,16 @@ says_added n rs (s ∷ t) = on (says_added n rs t)
 mapped_any : {A B : Type 0} (f : B → Bool) (g : A → B) (xs : List A)
     → list_any f (map g xs) ≡ list_any (λ x. f (g x)) xs
 mapped_any f g [] = refl
-mapped_any f g (x ∷ xs) = ap (λ b. f (g x) || b) (mapped_any f g xs)
+mapped_any f g (x ∷ xs) = rw (mapped_any f g xs) refl
 
 same_paths : (f : Path → Bool) (ss : List Section)
     → list_any (λ l. f l.path) (located ss) ≡ list_any (λ l. f (path_of l)) (placed ss)
-same_paths f ss =
-    sym (mapped_any f (λ l. l.path) (located ss)) ∙ ap (list_any f) (paths_agree ss) ∙ mapped_any f path_of (placed ss)
+same_paths f ss = simp mapped_any at (ap (list_any f) (paths_agree ss))
 
 -- a list of sections that was entered
 module _ (ss : List Section) (st : List Mark) (e : enter_all ss [] ≡ Some st) where
-  run : Ran [] (all_marks (placed ss)) st
-  run =
-      ran [] (all_marks (placed ss)) st (λ p k a. elim a [ ])
-      (grind (arith, enter_all_grows ss [] [] (λ p. refl) (λ p. refl), e))
+  took : take_all [] (all_marks (placed ss)) ≡ Some st
+  took = grind (arith, enter_all_grows ss [] [] (λ p. refl) (λ p. refl), e)
 
   -- a section that says something of a path
   record Saying (p : Path) (k : MarkKind) : Type 0 where
@@ -166,10 +155,10 @@ module _ (ss : List Section) (st : List Mark) (e : enter_all ss [] ≡ Some st) 
   kept : {p : Path} {k : MarkKind} → Saying p k → keeps k (standing_at st p) ≡ true
   kept {p = p} {k = k} x =
       let l = x.place in
-      run.keep p k (run.joins (inr (among_all (placed ss) x.among (marked l.element l.rows l.target x.says))))
+      keep [] _ st p k (among_all (placed ss) x.among (marked l.element l.rows l.target x.says)) took
 
   saying : {p : Path} {k : MarkKind} → Among (mark p k) st → Saying p k
-  saying a = elim (run.made a) [
+  saying a = elim (made [] (all_marks (placed ss)) st took a) [
     | inl none ↦ elim none [ ]
     | inr a ↦
         let r = among_one (placed ss) a in
@@ -179,36 +168,33 @@ module _ (ss : List Section) (st : List Mark) (e : enter_all ss [] ≡ Some st) 
   added_there : {p : Path} → Saying p by_latest → Added (placed ss) p
   added_there {p = p} x = latest_added (placed ss) [] ss (λ k a. elim a [ ]) (λ k a. a) x.place x.among p x.says
 
-  array_kept : {p : Path} → Added (placed ss) p → lasts true (standing_at st p) ≡ true
-  array_kept {p = p} k =
-      kept {k = added}
-      (record { place = k.0; among = k.2; says = rw (k.3, k.4) (says_added k.1 k.0.rows p) })
+  header_lasts : {p : Path} (k : MarkKind) → is_header k ≡ true → Saying p k
+      → lasts (of_array k) (standing_at st p) ≡ true
+  header_lasts passed h x = kept x
+  header_lasts named h x = kept x
+  header_lasts added h x = kept x
+  header_lasts {p = p} by_latest h x =
+      let k = added_there x in
+      kept {k = added} (record { place = k.0; among = k.2; says = rw (k.3, k.4) (says_added k.1 k.0.rows p) })
+  header_lasts k h x = absurd (false≢true h)
 
-  array_lasts : {p : Path} (k : MarkKind) → of_array k ≡ true → Saying p k → lasts true (standing_at st p) ≡ true
-  array_lasts added h x = kept x
-  array_lasts by_latest h x = array_kept (added_there x)
-  array_lasts k h x = absurd (false≢true h)
-
-  lasts_made : (a : Bool) (o : Option Standing) → lasts a o ≡ true → stands_made o ≡ true
-  lasts_made a o h = grind arith
-
-  header_made : {p : Path} (k : MarkKind) → is_header k ≡ true → Saying p k → stands_made (standing_at st p) ≡ true
-  header_made {p = p} passed h x = lasts_made false (standing_at st p) (kept x)
-  header_made {p = p} named h x = lasts_made false (standing_at st p) (kept x)
-  header_made {p = p} k h x = lasts_made true (standing_at st p) (array_lasts k h x)
+  -- what lasts is made, and where it is of an array, it is one
+  lasts_made : (a : Bool) (o : Option Standing) → lasts a o ≡ true
+      → (stands_made o ≡ true) × (a ≡ true → stands_array o ≡ true)
+  lasts_made a o h = (grind arith, λ is. grind arith)
 
   on_the_way : {p : Path} (k : MarkKind) → is_header k ≡ true → Saying p k
       → list_any (λ l. begins p (path_of l)) (placed ss) ≡ true
   on_the_way {p = p} k h x =
-      of_any (λ l. begins p (path_of l)) x.among
-      (way x.place.element x.place.target p k (role x.says h))
+      of_any (λ l. begins p (path_of l)) x.among (way x.place.element x.place.target p k (role x.says h))
 
   made_forth : (p : Path) → list_any (λ l. begins p (path_of l)) (placed ss) ≡ true
       → stands_made (standing_at st p) ≡ true
   made_forth p h =
       let l = any_of (λ l. begins p (path_of l)) (placed ss) h in
       let x = way_said l.0.element l.0.rows l.0.target p l.2 in
-      header_made x.kind x.header (record { place = l.0; among = l.1; says = x.says })
+      (lasts_made (of_array x.kind) (standing_at st p)
+      (header_lasts x.kind x.header (record { place = l.0; among = l.1; says = x.says }))).0
 
   made_back : (p : Path) (o : Option Standing) → Shown st p o → stands_made o ≡ true
       → list_any (λ l. begins p (path_of l)) (placed ss) ≡ true
@@ -225,17 +211,14 @@ module _ (ss : List Section) (st : List Mark) (e : enter_all ss [] ≡ Some st) 
       same_paths (begins (s ∷ p)) ss
       ∙ same_truth _ _ (made_forth (s ∷ p)) (made_back (s ∷ p) (standing_at st (s ∷ p)) (shown st (s ∷ p)))
 
-  array_stands : (o : Option Standing) → lasts true o ≡ true → stands_array o ≡ true
-  array_stands o h = grind arith
-
   array_forth : (p : Path) → list_any (λ l. goes_into p (path_of l)) (placed ss) ≡ true
       → stands_array (standing_at st p) ≡ true
   array_forth p h =
       let l = any_of (λ l. goes_into p (path_of l)) (placed ss) h in
       let both = and_parts (begins p (path_of l.0)) (is_number (drop (length p) (path_of l.0))) l.2 in
       let x = way_said l.0.element l.0.rows l.0.target p both.0 in
-      array_stands (standing_at st p)
-      (array_lasts x.kind (x.array both.1) (record { place = l.0; among = l.1; says = x.says }))
+      (lasts_made (of_array x.kind) (standing_at st p)
+      (header_lasts x.kind x.header (record { place = l.0; among = l.1; says = x.says }))).1 (x.array both.1)
 
   added_into : {p : Path} → Added (placed ss) p → list_any (λ l. goes_into p (path_of l)) (placed ss) ≡ true
   added_into {p = p} k =
@@ -261,5 +244,4 @@ module _ (ss : List Section) (st : List Mark) (e : enter_all ss [] ≡ Some st) 
 
   pub array_is : (p : Path) → is_array (located ss) p ≡ stands_array (standing_at st p)
   array_is p =
-      same_paths (goes_into p) ss
-      ∙ same_truth _ _ (array_forth p) (array_back p (standing_at st p) (shown st p))
+      same_paths (goes_into p) ss ∙ same_truth _ _ (array_forth p) (array_back p (standing_at st p) (shown st p))

@@ -1,5 +1,5 @@
 -- Data of rows, each of one key, is a table.
-use Rattle.std.proofs.Common.{◌≡◌, ℕ, Bool, true, false, List, [], ◌∷◌, Option, Some, None, refl, map, arith}
+use Rattle.std.proofs.Common.{◌≡◌, ℕ, true, false, List, [], ◌∷◌, Option, Some, None, refl, map, arith}
 use Rattle.std.proofs.Common.{sym, ◌∙◌, rules, ◌⊎◌, inl, inr, Box, Vec, Global}
 use Rattle.std.proofs.lemmas.Bool.{false≢true}
 use Rattle.std.proofs.Math.Seq.{take-nil, drop-nil}
@@ -21,31 +21,21 @@ use Rattle.basic_toml_grow.specs.declared.item.Item.{Item}
 use Rattle.basic_toml_grow.specs.declared.item.Table.{Table}
 use Rattle.basic_toml_tree.specs.Data.{data_of}
 use Rattle.basic_toml_tree.specs.Nodes.{is_table, elements_in}
-use Rattle.basic_toml_tree.proofs.ItemData.{rows_item, inline_data, table_is_table}
+use Rattle.basic_toml_tree.proofs.ItemData.{rows_item}
 
--- each branch stands at a key
-abbrev all_keys : Branches → Bool
-all_keys no_branches = true
-all_keys (branch (key k) g bs) = all_keys bs
-all_keys (branch (number n) g bs) = false
+-- branches that close to a table do so with one more at a key
+key_grows : (bs : Branches) (k : List ℕ) (p : Path) (v : Option Data) → is_table (closed_branches bs) ≡ true
+    → is_table (closed_branches (grow_at bs (key k) p v)) ≡ true
+key_grows no_branches k p v table = refl
+key_grows (branch (number n) g bs) k p v table = absurd (false≢true table)
+key_grows (branch (key l) g bs) k p v table = grind arith
 
-keys_grow : (bs : Branches) (k : List ℕ) (p : Path) (v : Option Data) → all_keys bs ≡ true
-    → all_keys (grow_at bs (key k) p v) ≡ true
-keys_grow no_branches k p v all = refl
-keys_grow (branch (number n) g bs) k p v all = absurd (false≢true all)
-keys_grow (branch (key l) g bs) k p v all = grind (arith, keys_grow bs k p v all)
-
-keys_close : (bs : Branches) → all_keys bs ≡ true → is_table (closed_branches bs) ≡ true
-keys_close no_branches all = refl
-keys_close (branch (key k) g bs) all = refl
-keys_close (branch (number n) g bs) all = absurd (false≢true all)
-
-rows_grow : (ls : List Lined) (bs : Branches) → all_keys bs ≡ true
+rows_grow : (ls : List Lined) (bs : Branches) → is_table (closed_branches bs) ≡ true
     → is_table (closed (grow_all (grown None bs) (row_mentions [] (rows_from [] ls)))) ≡ true
-rows_grow [] bs all = keys_close bs all
-rows_grow (l ∷ ls) bs all =
+rows_grow [] bs table = table
+rows_grow (l ∷ ls) bs table =
     rw (take-nil l.parents, drop-nil l.parents) (rows_grow ls (grow_at bs (key l.key.text) [] (Some (finished l.value)))
-    (keys_grow bs l.key.text [] (Some (finished l.value)) all))
+    (key_grows bs l.key.text [] (Some (finished l.value)) table))
 
 pub rows_are_table : (rs : List Row) → is_table (rows_data rs) ≡ true
 rows_are_table rs = rows_grow (map lined_of rs) no_branches refl
@@ -55,7 +45,7 @@ pub item_is_table : (i : Item)
     → ((rs : List Row) × (i ≡ items.Rows rs)) ⊎ ((t : Box Table Global) × (i ≡ items.Inline t))
     → is_table (data_of i) ≡ true
 item_is_table i (inl is) = rw (is.1, rows_item is.0) (rows_are_table is.0)
-item_is_table i (inr is) = rw (is.1, inline_data is.0, (table_is_table is.0.value).1) refl
+item_is_table i (inr is) = rw is.1 (search (rules, items.the_lemmas))
 
 pub raw_is_table : (v : raws.Raw) (rs : Vec Row Global) → v ≡ raws.Inline rs → is_table (plain_data v) ≡ true
 raw_is_table v rs is = rw (is, inline_rows rs) (rows_are_table rs.items)
@@ -70,10 +60,8 @@ pub raw_no_elements : (v : raws.Raw) → is_plain v 0 ≡ true → ((es : Vec El
 raw_no_elements v plain other = go (raws.out-Raw v) (sym (raws.roll-out-Raw v))
   where
     go : (x : Raw-F raws.Raw Element Row Rows) → v ≡ raws.roll-Raw x → elements_in (plain_data v) ≡ []
-    go (Raw-F.Array z) is =
-        absurd (other z (is ∙ search (rules, raws.the_lemmas)))
-    go (Raw-F.Inline z) is =
-        no_elements (plain_data v) (raw_is_table v z (is ∙ search (rules, raws.the_lemmas)))
+    go (Raw-F.Array z) is = absurd (other z (is ∙ search (rules, raws.the_lemmas)))
+    go (Raw-F.Inline z) is = no_elements (plain_data v) (raw_is_table v z (is ∙ search (rules, raws.the_lemmas)))
     go (Raw-F.Dotted z) is =
         let not_plain : is_plain (raws.roll-Raw (Raw-F.Dotted z)) 0 ≡ false = search (rules, raws.the_lemmas) in
         absurd (cc not_plain)

@@ -3,10 +3,9 @@ use Rattle.std.proofs.Common.{◌≡◌, ℕ, List, [], ◌∷◌, ◌++◌, ap,
 use Rattle.std.proofs.Common.{Some, None, true, false, cond, length, ◌==◌, Result, Ok, Err, IfErr}
 use Rattle.std.specs.Option.{option_map}
 use Rattle.std.specs.Str.{bytes_eq}
-use Rattle.std.proofs.lemmas.Bool.{false≢true}
 use Rattle.std.proofs.lemmas.List.{map-append}
-use Rattle.basic_toml_value.specs.Data.{Data, Members, items_of, no_members, members_of}
-use Rattle.basic_toml_value.specs.Text.{text_bytes}
+use Rattle.std.proofs.lemmas.Simd.{map-map}
+use Rattle.basic_toml_value.specs.Data.{Data, Members, items_of, members_of}
 use Rattle.basic_toml_value.specs.Entries.{seen, texts_of}
 use Rattle.basic_toml_value.specs.Pairs.{keys_of, value_at}
 use Rattle.basic_toml_value.specs.View.{view}
@@ -20,9 +19,9 @@ use Rattle.basic_toml_plain.specs.Plain.{are_few_simple, plain_array, element_da
 use Rattle.basic_toml_plain.specs.PlainTables.{SectionTables}
 use Rattle.basic_toml_plain.specs.Values.{row_pair, sections_data, value_pair}
 use Rattle.basic_toml_plain.proofs.PlainSeen.{elements_finished}
-use Rattle.basic_toml_plain.proofs.DataParts.{members_same, value_keys, array_seen}
+use Rattle.basic_toml_plain.proofs.DataParts.{value_keys, array_seen}
 use Rattle.basic_toml_plain.proofs.RowsData.{few_data}
-use Rattle.basic_toml_grow.specs.declared.item.Item.{the_lemmas, Array, Inline, Plain, Rows, Sections, Tables}
+use Rattle.basic_toml_grow.specs.declared.item.Item.{the_lemmas, Array, Plain, Rows, Sections, Tables}
 use Rattle.basic_toml_grow.specs.declared.item.Child.{Child, out-Child}
 use Rattle.basic_toml_grow.specs.declared.item.Table.{Table, out-Table}
 use Rattle.basic_toml_tree.specs.Nodes.{data_among, data_at}
@@ -46,20 +45,14 @@ pairs_seen (p ∷ ps) = ap (λ l. child_pair p ∷ l) (pairs_seen ps)
 
 pub table_of_pairs : (t : Table) (pairs : List (Pair Child)) → seen pairs ≡ (out-Table t).entries
     → table_data t ≡ Data.table (members_of (map child_pair pairs))
-table_of_pairs t pairs same =
-    rw (table_members t, ← same, pairs_seen pairs) refl
+table_of_pairs t pairs same = rw (table_members t, ← same, pairs_seen pairs) refl
 
 -- where memory is refused to a table that has entries or rows, it holds something
-none_mapped : {A : Type 0} (f : A → List ℕ × Data) (xs : List A) → members_of (map f xs) ≡ no_members
-    → (length xs == 0) ≡ true
-none_mapped f [] e = refl
-none_mapped f (x ∷ xs) e = cc
-
 refused : {A B E : Type 0} (f : A → List ℕ × Data) (xs : List A) (d : Data) (result : Result B E)
     → d ≡ Data.table (members_of (map f xs)) → (length xs == 0) ≡ false → IfErr result (λ e. HoldsAny d)
 refused f xs d (Ok x) is some = tt
-refused f xs d (Err e) is some =
-    λ none. false≢true (sym some ∙ none_mapped f xs (members_same _ no_members (sym is ∙ none)))
+refused f [] d (Err e) is some = absurd (cc)
+refused f (x ∷ xs) d (Err e) is some = λ none. cc
 
 pub refused_held : {A E : Type 0} (t : Table) (result : Result A E) → (length (out-Table t).entries == 0) ≡ false
     → IfErr result (λ e. HoldsAny (table_data t))
@@ -88,10 +81,6 @@ pub children_data : (children : Vec Child Global)
     → data_of (Array children) ≡ Data.array (items_of (map child_data children.items))
 children_data children = search (rules, the_lemmas)
 
--- the data of an inline table of other items
-pub inline_data : (table : Box Table Global) → data_of (Inline table) ≡ table_data table.value
-inline_data table = search (rules, the_lemmas)
-
 -- the data of an array of tables
 pub tables_data : (tables : Box (Vec Table Global × Table) Global)
     → data_of (Tables tables)
@@ -104,12 +93,7 @@ sections_item tables = search (rules, the_lemmas)
 -- copies of the same pairs have the same keys
 pub keys_copied : (copies : List (Pair values.Value)) (pairs : List (Pair Child)) (old : List (List ℕ × Child))
     → map value_pair copies ≡ map child_pair pairs → seen pairs ≡ old → keys_of old ≡ texts_of copies
-keys_copied copies pairs old same is =
-    ap keys_of (sym is) ∙ child_keys pairs ∙ ap (map (λ p. p.0)) (sym same) ∙ sym (value_keys copies)
-  where
-    child_keys : (pairs : List (Pair Child)) → keys_of (seen pairs) ≡ map (λ p. p.0) (map child_pair pairs)
-    child_keys [] = refl
-    child_keys (p ∷ ps) = ap (λ l. text_bytes p.key ∷ l) (child_keys ps)
+keys_copied copies pairs old same is = rw (← is, value_keys copies, same, ← pairs_seen pairs) (simp map-map)
 
 -- what an array is seen as that has the tables before and the latest
 pub tables_seen : (before next : Vec values.Value Global) (v : values.Value)
@@ -126,9 +110,7 @@ data_among-members (p ∷ ps) key = ap (cond (bytes_eq key p.0) (Some p.1)) (dat
 
 data_at_key : (t : Table) (key : List ℕ)
     → data_at (table_data t) key ≡ option_map child_data (value_at (out-Table t).entries key)
-data_at_key t key =
-    rw (table_members t) (data_among-members (map (λ p. (p.0, child_data p.1)) (out-Table t).entries) key
-    ∙ value_at-map child_data (out-Table t).entries key)
+data_at_key t key = rw (table_members t, data_among-members, value_at-map child_data) refl
 
 pub data_at_found : (t : Table) (key : List ℕ) (c : Child) → value_at (out-Table t).entries key ≡ Some c
     → data_at (table_data t) key ≡ Some (child_data c)

@@ -1,10 +1,8 @@
 pub mod ItemData
 pub mod InlineTables
 pub mod OrderIsFree
-pub mod SectionsEntered
 pub mod SectionsGrown
 pub mod TreeOfText
-pub mod SectionsResolved
 pub mod SectionsFaultIsOne
 pub mod SectionsStopped
 pub mod TrieData

@@ -25,39 +25,32 @@ module _ (sections others : List Section) (same : MeanTheSame sections others) w
   tree_too : (tree : Tree) → IsResolved sections tree → IsAnswerToo sections (Ok tree) others
   tree_too tree is =
       let maps = same.maps is.clash in
-      let peace : has_clash others ≡ false = sym same.clash ∙ is.clash in
       let fits : depth (tree_of_sections others) ≤ nesting_limit = rw (same_maps_are_as_deep _ _ maps) at is.fits in
-      rw (peace, le-leb (depth (tree_of_sections others)) nesting_limit fits, is.grown) maps
+      rw (← same.clash, is.clash, le-leb (depth (tree_of_sections others)) nesting_limit fits, is.grown) maps
 
-  clash_too : (fault : Fault) → has_clash sections ≡ true → IsRefusedToo sections fault others
-  clash_too fault met = record { none = rw (← same.clash, met) refl; clash = λ names. sym same.clash ∙ met }
-
-  too_deep_too : (fault : Fault) → (has_clash sections ≡ false → nesting_limit < depth (tree_of_sections sections))
+  -- they are refused too, where these clash or are too deep
+  refused_too : (fault : Fault) → (has_clash sections ≡ false → nesting_limit < depth (tree_of_sections sections))
       → IsRefusedToo sections fault others
-  too_deep_too fault over = elim (cases_Bool (has_clash sections)) [
-    | inl met ↦ clash_too fault met
-    | inr peace ↦
-        let there : nesting_limit < depth (tree_of_sections others) =
-        rw (same_maps_are_as_deep _ _ (same.maps peace)) at (over peace) in
-        record {
-          none = grind (arith, there);
-          clash = λ names. sym same.clash ∙ named_clashes sections fault names;
-        }
-  ]
+  refused_too fault over = record {
+    none = elim (cases_Bool (has_clash sections)) [
+      | inl met ↦ rw (← same.clash, met) refl
+      | inr peace ↦ grind (arith, rw (same_maps_are_as_deep _ _ (same.maps peace)) at (over peace))
+    ];
+    clash = λ names. sym same.clash ∙ named_clashes sections fault names;
+  }
 
   none_too : all_keyed sections ≡ true → all_keyed_within sections ≡ true → (fault : Fault)
       → IsUnresolved sections fault → IsAnswerToo sections (Err fault) others
   none_too keyed within _ (memory listed) = inl refl
   none_too keyed within fault (refused why) = inr (elim (fault_is_named sections fault keyed why) [
-    | inl names ↦ clash_too fault (named_clashes sections fault names)
-    | inr d ↦ too_deep_too fault (λ peace. deep_where_one_is nesting_limit d.0 sections keyed within peace d.2)
+    | inl names ↦ refused_too fault (λ peace. absurd (cc (named_clashes sections fault names)))
+    | inr d ↦ refused_too fault (λ peace. deep_where_one_is nesting_limit d.0 sections keyed within peace d.2)
   ])
 
 mean_the_same : (sections others : List Section) → all_keyed sections ≡ true → IsReordering sections others
     → MeanTheSame sections others
 mean_the_same sections others keyed (inl paths) = reordered_means_the_same sections others keyed paths
-mean_the_same sections others keyed (inr plain) =
-    plain_reordered_means_the_same sections others keyed plain.0 plain.1
+mean_the_same sections others keyed (inr plain) = plain_reordered_means_the_same sections others keyed plain.0 plain.1
 
 pub in_any_order : (list : List code.Section) (result : Result Tree Fault) → Resolves list result
     → ResolvesInAnyOrder list result

@@ -1,4 +1,3 @@
 -- Where what stands in the tree comes from: what a section list brings, by paths.
-pub mod WaysAreLocated
 pub mod SectionsPlaceOrigins
 pub mod RowsAreNodes

@@ -1,5 +1,5 @@
 -- A list that has no tree has one fault.
-use Rattle.std.proofs.Common.{◌≡◌, inl, inr, true, List, [], ◌∷◌, ◌++◌, None, refl, ap, sym, ◌∙◌, arith}
+use Rattle.std.proofs.Common.{◌≡◌, inl, inr, true, List, [], ◌∷◌, ◌++◌, None, refl, sym, ◌∙◌, arith}
 use Rattle.std.specs.List.{Contains}
 use Rattle.std.proofs.lemmas.Bool.{false≢true}
 use Rattle.basic_toml_grammar.specs.Sections.{Section, texts}
@@ -9,12 +9,10 @@ use Rattle.basic_toml_grammar.specs.Trie.{Trie, nothing, put_sections}
 use Rattle.basic_toml_grammar.proofs.Naming.EveryClashIsNamed.{named_clashes}
 use Rattle.basic_toml_grow.specs.Obstacles.{first_obstacle}
 use Rattle.basic_toml_grow.proofs.HeadersInATrie.{met_fresh}
-use Rattle.basic_toml_grow.specs.Clash.{obstacle_fault}
 use Rattle.basic_toml_grow.specs.Crossed.{first_crossed}
 use Rattle.basic_toml_grow.proofs.ValuesOnTheWay.{none_left}
-use Rattle.basic_toml_tree.specs.FirstStop.{Stands, Entered, StopsSection, FirstStop, value}
-use Rattle.basic_toml_tree.specs.FirstStop.{section, SectionsFaultIsOne}
-use Rattle.basic_toml_tree.proofs.SectionsEntered.{no_clash}
+use Rattle.basic_toml_tree.specs.FirstStop.{Stands, Entered, FirstStop, value, section, SectionsFaultIsOne}
+use Rattle.basic_toml_tree.proofs.SectionsGrown.{no_clash}
 use Rattle.basic_toml_tree.proofs.SectionsStopped.{stop_is_named, keyed_parts, crossed_joined}
 
 -- two splits of one list: at the same place, or the one before the other
@@ -35,52 +33,39 @@ splits (z ∷ a) (w ∷ b) x y c d e =
       | later more g ↦ later more (cc (f, g))
     ]
 
--- a section that is stopped after some is not among those that a tree takes
-not_entered : (before : List Section) (s : Section) (more : List Section) (t u : Trie) (fault : Fault)
-    → all_keyed (before ++ s ∷ more) ≡ true → first_crossed (before ++ s ∷ more) ≡ None → Entered before t
-    → StopsSection t s fault → Entered (before ++ s ∷ more) u → ⊥
-not_entered before s more t u fault keyed none entered stopped all =
-    elim (stop_is_named before s more t fault keyed none entered stopped) [
-      | inl names ↦ false≢true (sym (no_clash all keyed) ∙ named_clashes (before ++ s ∷ more) fault names)
-      | inr deep ↦
-          let nowhere : Contains [] deep.0 = rw all.shallow at deep.2 in
-          absurd (omega (arith, nowhere.1))
-    ]
-
 -- a trie of sections takes the next one as they tell: a root as nothing does
 alike : (before : List Section) (s : Section) (t : Trie) → Stands before t
     → first_obstacle s t ≡ and_then (put_sections before nothing) (first_obstacle s)
 alike before s t (inl e) = rw e refl
 alike before s t (inr e) = rw (e.0, e.1) (met_fresh s.is_array s.rows (texts s.header) 1)
 
-same_fault : (before : List Section) (s : Section) (t u : Trie) (fault other : Fault) → Stands before t
-    → Stands before u → StopsSection t s fault → StopsSection u s other → fault ≡ other
-same_fault before s t u fault other e f (x, (met, is)) (y, (met', is')) =
-    let same : x ≡ y = cc (alike before s t e, alike before s u f) in is ∙ ap (obstacle_fault s) same ∙ sym is'
-
 module _ (sections : List Section) (keyed : all_keyed sections ≡ true) (none : first_crossed sections ≡ None) where
-  -- the sections before the one stop do not hold the other
+  -- the sections before the one stop do not hold the other: a tree takes them
   passed : {fault other : Fault} (a : FirstStop sections fault) (b : FirstStop sections other) (more : List Section)
       → b.before ≡ a.before ++ a.here ∷ more → ⊥
   passed a b more e =
-      let whole : sections ≡ (a.before ++ a.here ∷ more) ++ b.here ∷ b.later = rw e at b.parts in
-      not_entered a.before a.here more a.so_far b.so_far _
-      (keyed_parts (a.before ++ a.here ∷ more) (b.here ∷ b.later) (rw whole at keyed)).0
-      (none_left _ _ (sym (crossed_joined (a.before ++ a.here ∷ more) (b.here ∷ b.later)) ∙ rw whole at none))
-      a.entered a.stopped (rw e at b.entered)
+      let taken : List Section = a.before ++ a.here ∷ more in
+      let whole : sections ≡ taken ++ b.here ∷ b.later = rw e at b.parts in
+      let keys = (keyed_parts taken (b.here ∷ b.later) (rw whole at keyed)).0 in
+      let free = none_left _ _ (sym (crossed_joined taken (b.here ∷ b.later)) ∙ rw whole at none) in
+      let entered : Entered taken b.so_far = rw e at b.entered in
+      elim (stop_is_named a.before a.here more a.so_far _ keys free a.entered a.stopped) [
+        | inl names ↦ false≢true (sym (no_clash entered keys) ∙ named_clashes taken _ names)
+        | inr deep ↦
+            let nowhere : Contains [] deep.0 = rw entered.shallow at deep.2 in
+            absurd (omega (arith, nowhere.1))
+      ]
 
   one_stop : {fault other : Fault} (a : FirstStop sections fault) (b : FirstStop sections other)
       → Splits a.before b.before a.here b.here → fault ≡ other
-  one_stop {fault = fault} {other = other} a b (same e f) =
-      same_fault a.before a.here a.so_far b.so_far fault other a.entered.stands (rw (← e) at b.entered.stands) a.stopped
-      (rw (← f) at b.stopped)
+  one_stop a b (same e f) =
+      cc (alike a.before a.here a.so_far a.entered.stands, alike b.before b.here b.so_far b.entered.stands)
   one_stop a b (earlier more e) = absurd (passed a b more e)
   one_stop a b (later more e) = absurd (passed b a more e)
 
 pub sections_fault_is_one : SectionsFaultIsOne
+sections_fault_is_one sections _ _ keyed (section none a) (section none' b) =
+    one_stop sections keyed none a b (splits a.before b.before a.here b.here a.later b.later (sym a.parts ∙ b.parts))
 sections_fault_is_one sections _ _ keyed (value e) (value f) = cc
 sections_fault_is_one sections _ _ keyed (value e) (section none b) = cc
 sections_fault_is_one sections _ _ keyed (section none a) (value f) = cc
-sections_fault_is_one sections _ _ keyed (section none a) (section none' b) =
-    one_stop sections keyed none a b
-    (splits a.before b.before a.here b.here a.later b.later (sym a.parts ∙ b.parts))

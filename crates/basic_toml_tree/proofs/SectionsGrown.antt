@@ -1,16 +1,28 @@
--- The sections of a list entered one after another: what is known of the tree then, and of one that is not entered.
-use Rattle.std.proofs.Common.{◌≡◌, ◌⊎◌, inl, inr, ℕ, ◌+◌, true, List, [], ◌∷◌, ◌++◌, refl, ap, sym, ◌∙◌, arith}
-use Rattle.std.proofs.Common.{map, length, reverse, suc, Option, Some, None}
-use Rattle.std.proofs.lemmas.List.{map-append, length-map}
-use Rattle.std.proofs.lemmas.Bool.{false≢true}
-use Rattle.basic_toml_grammar.specs.IndexedPath.{located, located_from, located_after}
+-- The sections of a list entered one after another: what is known of the tree then, and of one that is not entered, and
+-- of a list whose sections give their rows and their headers away.
+use Rattle.std.proofs.Common.{◌≡◌, inl, inr, suc, ◌+◌, ◌<◌, ◌≤◌, true, false, List, [], ◌∷◌, ◌++◌, Some, None, is_some}
+use Rattle.std.proofs.Common.{if◌then◌else◌, refl, ap, sym, ◌∙◌, arith, reverse, ◌⊎◌, ℕ, map, length, Option}
+use Rattle.std.proofs.Common.{◌==◌, take, drop, get_or, Result, Ok, Err, IsErrAnd, Vec, Global}
+use Rattle.std.proofs.lemmas.Bool.{not-true, false≢true, eqb-false}
+use Rattle.basic_toml_value.specs.Nesting.{nesting_limit}
+use Rattle.basic_toml_grammar.specs.Sections.{Section, texts, Key}
+use Rattle.basic_toml_grammar.specs.RowClash.{rows_clash}
+use Rattle.basic_toml_grammar.specs.IndexedPath.{located, located_after, located_from}
+use Rattle.basic_toml_grammar.specs.Document.{has_clash, tree_of_sections}
 use Rattle.basic_toml_grammar.specs.Entering.{all_keyed, all_keyed_within}
+use Rattle.basic_toml_grammar.specs.Growth.{closed}
+use Rattle.basic_toml_grammar.specs.Trie.{Trie, nothing, bare, walk, steps_to, put_section, put_sections}
+use Rattle.basic_toml_grow.specs.Headers.{IsIn}
+use Rattle.basic_toml_tree.specs.FirstStop.{Stands, Entered, section}
+use Rattle.basic_toml_grow.proofs.HeadersInATrie.{walk_fresh, fresh}
+use Rattle.basic_toml_grammar.proofs.Tries.SectionsInATrie.{sections_put, sections_data}
+use Rattle.basic_toml_grammar.proofs.Tries.StepsArePaths.{at_section, put_append, deep_append}
+use Rattle.basic_toml_grammar.proofs.Nesting.DepthIsTheHighestLevel.{fits_where_shallow}
+use Rattle.std.proofs.lemmas.List.{map-append, length-map, map_more, take_all, length-take-le}
 use Rattle.basic_toml_grammar.specs.Faults.{Fault}
 use Rattle.basic_toml_grammar.specs.NamedClash.{dotted_fault}
 use Rattle.basic_toml_grammar.proofs.Naming.EveryClashIsNamed.{named_clashes}
-use Rattle.basic_toml_grammar.specs.Trie.{walk, steps_to}
 use Rattle.basic_toml_grammar.specs.Stops.{stop_fault}
-use Rattle.basic_toml_grammar.specs.Sections.{Key, Section, texts}
 use Rattle.basic_toml_explain.specs.Error.{want_of_memory}
 use Rattle.basic_toml_read.specs.declared.section.Section as code
 use Rattle.basic_toml_read.specs.SectionView.{section_of}
@@ -18,24 +30,41 @@ use Rattle.basic_toml_grow.specs.declared.clash.Clash.{Clash}
 use Rattle.basic_toml_grow.specs.declared.clash.Clash.TheVariants.{Memory, Deep}
 use Rattle.basic_toml_grow.specs.Clash.{Obstacle, too_deep, in_the_way, obstacle_fault, NamesObstacle, NamesClash}
 use Rattle.basic_toml_grow.specs.Crossed.{first_crossed}
-use Rattle.basic_toml_grow.specs.Headers.{IsIn}
 use Rattle.basic_toml_grow.specs.Obstacles.{first_obstacle}
 use Rattle.basic_toml_grow.specs.Item.{table_trie}
 use Rattle.basic_toml_grow.specs.declared.item.Table.{Table}
 use Rattle.basic_toml_grow.specs.Origins.{table_within, rows_origins}
 use Rattle.basic_toml_grow.specs.Ways.{way, GrowsAlong, MarksTable}
-use Rattle.basic_toml_grow.proofs.HeadersInATrie.{fresh}
 use Rattle.basic_toml_grow.proofs.Origins.OriginsSeen.{fresh_within}
 use Rattle.basic_toml_tree.specs.declared.tree.Tree.{Tree}
-use Rattle.basic_toml_tree.specs.FirstStop.{Entered, section}
-use Rattle.basic_toml_tree.specs.Resolve.{IsResolved, IsUnresolved, memory, refused, head}
-use Rattle.basic_toml_grammar.proofs.Tries.StepsArePaths.{at_section}
-use Rattle.basic_toml_tree.proofs.Origins.SectionsPlaceOrigins.{ComeFrom, none_come, more_come}
-use Rattle.basic_toml_tree.proofs.Origins.WaysAreLocated.{way_is}
+use Rattle.basic_toml_tree.specs.Resolve.{IsResolved, IsUnresolved, memory, refused, head, Resolves}
+use Rattle.basic_toml_tree.proofs.Origins.SectionsPlaceOrigins.{way_is, ComeFrom, none_come, more_come}
 use Rattle.basic_toml_tree.proofs.Nodes.RowNodesTold.{not_led}
-use Rattle.basic_toml_tree.proofs.SectionsEntered.{one_more, whole_tree, no_clash, fits_all}
-use Rattle.basic_toml_tree.proofs.SectionsStopped.{same_obstacle_fault, crossed_named, keyed_parts}
+use Rattle.basic_toml_tree.proofs.SectionsStopped.{same_obstacle_fault, crossed_named, keyed_parts, level_there}
 use Rattle.basic_toml_tree.proofs.TrieData.{table_trie_data}
+use Rattle.std.specs.Vec.{vec_len}
+use Rattle.std.proofs.Math.Seq.{split_at}
+use Rattle.basic_toml_read.proofs.RowsHaveKeys.{sections_have_keys}
+
+-- One more section is taken as the tree takes it, on the same level: a fresh table takes it as nothing does.
+taken : (earlier : List Section) (s : Section) (t u : Trie) → Stands earlier t → put_section s t ≡ Some u
+    → put_sections (earlier ++ s ∷ []) nothing ≡ Some u
+taken earlier s t u (inl e) put = rw (put_append earlier (s ∷ []) nothing, e, put) refl
+taken earlier s t u (inr e) put =
+    let fresh_is = ap (λ w. if rows_clash s.rows then None else w) (walk_fresh s.is_array s.rows (texts s.header)) in
+    let first : put_section s nothing ≡ Some u = sym fresh_is ∙ rw e.1 at put in rw (e.0, first) refl
+
+-- the tree at the end
+whole_tree : (sections : List Section) (t : Trie) → Stands sections t → closed (bare t) ≡ tree_of_sections sections
+whole_tree sections t (inl e) = sections_data sections t e
+whole_tree sections t (inr e) = rw (e.0, e.1) refl
+
+pub no_clash : {sections : List Section} {t : Trie} → Entered sections t → all_keyed sections ≡ true
+    → has_clash sections ≡ false
+no_clash {sections} entered keyed = elim entered.stands [
+  | inl e ↦ not-true (has_clash sections) (sym (sections_put sections keyed) ∙ ap is_some e)
+  | inr e ↦ ap has_clash e.0
+]
 
 -- These sections are entered in a table, their headers are kept, and what rows and headers made comes from them.
 pub record HaveEntered (list : List Section) (headers : List (ℕ × List Key)) (root : Table) : Type 0 where
@@ -55,10 +84,11 @@ pub entered_resolved : (list : List Section) (tree : Tree) → HaveEntered list 
     → all_keyed list ≡ true → all_keyed_within list ≡ true → IsResolved list tree
 entered_resolved list tree have keyed within =
     let origins = have.origins keyed in
+    let clash = no_clash have.entered keyed in
     record {
-      clash = no_clash have.entered keyed;
-      fits = fits_all have.entered keyed within;
-      grown = sym (table_trie_data tree.root) ∙ whole_tree have.entered;
+      clash = clash;
+      fits = fits_where_shallow nesting_limit list keyed within clash have.entered.shallow (omega arith);
+      grown = sym (table_trie_data tree.root) ∙ whole_tree list (table_trie tree.root) have.entered.stands;
       stands = have.entered.stands;
       heads = have.heads;
       within = within;
@@ -82,8 +112,7 @@ clash_is : (o : Option Obstacle) (c : Clash) (fault : Fault) (s : code.Section) 
 clash_is o c fault s met (inl is) = inl is
 clash_is o Memory fault s met (inr is) = inl is
 clash_is o Deep fault s met (inr is) = inr (too_deep, met, is)
-clash_is o c fault s met (inr is) =
-    inr (in_the_way met.0, met.1.1, is ∙ ap (stop_fault (section_of s)) (sym met.1.0))
+clash_is o c fault s met (inr is) = inr (in_the_way met.0, met.1.1, is ∙ ap (stop_fault (section_of s)) (sym met.1.0))
 
 -- what a section does to a table that takes it
 pub record GoesIn (s : Section) (n : ℕ) (root after : Table) : Type 0 where
@@ -105,8 +134,13 @@ module _ {list : List Section} {headers : List (ℕ × List Key)} {root : Table}
   pub more_entered : (s : Section) (n : ℕ) (after : Table) (more : List (ℕ × List Key)) → n ≡ length headers
       → GoesIn s n root after → more ≡ headers ++ head s ∷ [] → HaveEntered (list ++ s ∷ []) more after
   more_entered s n after more counted goes pushed = record {
-    entered = one_more list s (table_trie root) (table_trie after) have.entered goes.is_in;
-    heads = pushed ∙ ap (λ hs. hs ++ head s ∷ []) have.heads ∙ sym (map-append head list (s ∷ []));
+    entered = record {
+      stands = inl (taken list s _ _ have.entered.stands (rw goes.is_in.apart goes.is_in.gives));
+      shallow =
+          rw (at_section list s [], deep_append, have.entered.shallow)
+          (grind (arith, level_there list s (table_trie root) have.entered.stands, rw (one_more _) at goes.is_in.fits));
+    };
+    heads = rw (pushed, have.heads, map-append) refl;
     origins = λ keyed.
         let before = (keyed_parts list (s ∷ []) keyed).0 in
         let path = way_is list s (table_trie root) before have.entered.stands in
@@ -116,6 +150,9 @@ module _ {list : List Section} {headers : List (ℕ × List Key)} {root : Table}
         (have.origins before) (rw (path, number) at goes.grows) (rw (path, number) at goes.marks));
   }
     where
+      one_more : (n : ℕ) → 1 + n ≡ suc n
+      one_more n = omega arith
+
       located_count : (before ss : List Section) → length (located_from before ss) ≡ length ss
       located_count before [] = refl
       located_count before (s ∷ ss) = ap suc (located_count (s ∷ before) ss)
@@ -138,3 +175,62 @@ module _ {list : List Section} {headers : List (ℕ × List Key)} {root : Table}
           stopped = (x.0, (x.1, x.2 ∙ same_obstacle_fault (section_of now) (section_of s) (rw header refl) same x.0));
         }))
       ]
+
+-- What is known after so many sections: those before are entered, and those that are left are as they were.
+pub record Goes (old now : List code.Section) (n : ℕ) (headers : List (ℕ × List Key)) (root : Table) : Type 0 where
+  pub have : HaveEntered (map section_of (take n old)) headers root
+  pub count : length now ≡ length old
+  pub left : (k : ℕ) (d : code.Section) → n ≤ k → get_or now k d ≡ get_or old k d
+
+pub begins : (old : List code.Section) (headers : List (ℕ × List Key)) (root : Table) → headers ≡ []
+    → table_trie root ≡ fresh → Goes old old 0 headers root
+begins old headers root none is = record {
+  have = none_entered headers root none is;
+  count = refl;
+  left = λ k d within. refl;
+}
+
+-- the list, split at the next section
+module _ {old now : List code.Section} {n : ℕ} {headers : List (ℕ × List Key)} {root : Table}
+    (goes : Goes old now n headers root) (s : code.Section) (within : n < length now) (is : s ≡ get_or now n s) where
+  was : get_or old n s ≡ s
+  was = sym (is ∙ goes.left n s (omega arith))
+
+  split : map section_of old ≡ map section_of (take n old) ++ section_of s ∷ map section_of (drop (suc n) old)
+  split = ap (map section_of) (split_at old n s (omega (arith, goes.count))) ∙ rw (map-append, was) refl
+
+  more : map section_of (take (n + 1) old) ≡ map section_of (take n old) ++ section_of s ∷ []
+  more = rw (map_more section_of old n s (omega (arith, goes.count)), was) refl
+
+  counted_headers : n ≡ length headers
+  counted_headers = omega (arith, goes.count, simp length-map at (ap length goes.have.heads), length-take-le n old)
+
+  pub goes_on : (next : List code.Section) (more_headers : List (ℕ × List Key)) (after : Table)
+      → GoesIn (section_of s) n root after → length next ≡ length now
+      → ((k : ℕ) (d : code.Section) → n + 1 ≤ k → get_or next k d ≡ get_or now k d)
+      → more_headers ≡ headers ++ head (section_of s) ∷ [] → Goes old next (n + 1) more_headers after
+  goes_on next more_headers after goes_in count same heads = record {
+    have = rw more (more_entered goes.have (section_of s) n after more_headers counted_headers goes_in heads);
+    count = count ∙ goes.count;
+    left = λ k d past. same k d past ∙ goes.left k d (omega (arith, past));
+  }
+
+  -- a section that is not entered, and its fault
+  pub stays_out : first_crossed (map section_of old) ≡ None → (c : Clash) (fault : Fault)
+      → NamesObstacle (first_obstacle (section_of s) (table_trie root)) c → (after : code.Section) → after.at ≡ s.at
+      → after.header ≡ s.header → NamesClash after c fault → IsUnresolved (map section_of old) fault
+  stays_out none c fault met after same header names =
+      rw split (kept_out goes.have s (map section_of (drop (suc n) old)) (rw split at none) c fault met after same
+      header names)
+
+-- what is answered where memory is refused, where a row goes on from a value, and at the end
+pub want_of : (ss : Vec code.Section Global) (r : Result Tree Fault) → (vec_len ss == 0) ≡ false
+    → IsErrAnd r (λ f. f ≡ want_of_memory) → Resolves ss.items r
+want_of ss (Ok tree) some is = absurd is
+want_of ss (Err fault) some is = λ keyed. rw is (memory (λ none.
+    eqb-false (vec_len ss) 0 some (omega (arith, ss.ok.0, simp length-map at (ap length none)))))
+
+pub resolved : {old now : List code.Section} {n : ℕ} (tree : Tree) → Goes old now n tree.headers tree.root
+    → length old ≤ n → all_keyed (map section_of old) ≡ true → IsResolved (map section_of old) tree
+resolved {old} {now} {n} tree goes past keyed =
+    entered_resolved (map section_of old) tree (rw (take_all n old past) at goes.have) keyed (sections_have_keys old)

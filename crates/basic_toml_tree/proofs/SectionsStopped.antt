@@ -1,30 +1,28 @@
 -- The fault of a list that has no tree names a clash of it, or a section that is too deep.
-use Rattle.std.proofs.Common.{◌≡◌, ◌⊎◌, inl, inr, ℕ, true, List, [], ◌∷◌, ◌++◌, refl, ap, sym, ◌∙◌}
-use Rattle.std.proofs.Common.{arith, ◌<◌, Some, None}
-use Rattle.std.specs.Prelude.{Contains}
-use Rattle.std.specs.List.{flat_map}
+use Rattle.std.proofs.Common.{◌≡◌, ◌⊎◌, inl, inr, ℕ, true, List, [], ◌∷◌, ◌++◌, refl, ap, sym, ◌∙◌, arith, ◌<◌, Some}
+use Rattle.std.proofs.Common.{None, nat_lt, reverse}
+use Rattle.std.specs.List.{flat_map, Contains}
 use Rattle.std.specs.Option.{option_or}
 use Rattle.std.proofs.lemmas.Bool.{and_parts}
 use Rattle.basic_toml_grammar.specs.Sections.{Section, texts}
 use Rattle.basic_toml_grammar.specs.Entering.{is_keyed, all_keyed}
 use Rattle.basic_toml_grammar.specs.Faults.{Fault, nested_too_deeply, out_of_memory}
 use Rattle.basic_toml_grammar.specs.GrammarFaults.{fault_at}
-use Rattle.basic_toml_grammar.specs.IndexedPath.{located}
-use Rattle.basic_toml_grammar.specs.NestingFaults.{deep_sections}
+use Rattle.basic_toml_grammar.specs.IndexedPath.{located, located_after, located_from}
+use Rattle.basic_toml_grammar.specs.NestingFaults.{deep_sections, tree_level}
 use Rattle.basic_toml_grammar.specs.NamedClash.{NamesClash, dotted_fault, dotted_faults, repeated_faults_of}
 use Rattle.basic_toml_grammar.specs.NamedClash.{section_faults, first_of_two}
 use Rattle.basic_toml_value.specs.Nesting.{nesting_limit}
-use Rattle.basic_toml_grammar.specs.Stops.{Stop, is_named, stop_fault}
-use Rattle.basic_toml_grammar.specs.Trie.{Trie, nothing}
+use Rattle.basic_toml_grammar.specs.Trie.{Trie, nothing, section_level_in}
 use Rattle.basic_toml_grammar.proofs.Naming.TrieStopsAreNamed.{trie_stops_named}
 use Rattle.basic_toml_grow.specs.Clash.{Obstacle, too_deep, in_the_way, obstacle_fault}
-use Rattle.basic_toml_grow.specs.Obstacles.{first_obstacle}
 use Rattle.basic_toml_tree.specs.FirstStop.{Stands, Entered, StopsSection, SectionsFault, value, section}
 use Rattle.basic_toml_grow.specs.Crossed.{first_crossed}
 use Rattle.basic_toml_grow.proofs.CrossedIsFault.{tells_sections}
-use Rattle.basic_toml_tree.proofs.SectionsEntered.{deep_by_path}
-use Rattle.basic_toml_grow.proofs.HeadersInATrie.{met_fresh}
+use Rattle.basic_toml_grow.proofs.HeadersInATrie.{met_fresh, steps_fresh}
 use Rattle.basic_toml_grow.proofs.ObstaclesAreStops.{met_deep, met_stops}
+use Rattle.std.proofs.lemmas.List.Elements.{Contains-append_right}
+use Rattle.basic_toml_grammar.proofs.Tries.StepsArePaths.{level_is_tree_level, at_section, deep_append}
 
 -- the first sections of a list with keys, and the others
 pub keyed_parts : (earlier later : List Section) → all_keyed (earlier ++ later) ≡ true
@@ -32,21 +30,6 @@ pub keyed_parts : (earlier later : List Section) → all_keyed (earlier ++ later
 keyed_parts [] later keyed = (refl, keyed)
 keyed_parts (r ∷ earlier) later keyed =
     (grind (arith, keyed_parts earlier later), grind (arith, keyed_parts earlier later))
-
--- what stands in the way of a section names a clash
-section_stops : (earlier : List Section) (s : Section) (later : List Section) (t : Trie) → Stands earlier t
-    → all_keyed (earlier ++ s ∷ later) ≡ true → flat_map (λ s. dotted_faults s.rows) (earlier ++ s ∷ later) ≡ []
-    → (x : Stop) → first_obstacle s t ≡ Some (in_the_way x) → NamesClash (earlier ++ s ∷ later) (stop_fault s x)
-section_stops earlier s later t stands keyed none x e =
-    let parts = keyed_parts earlier (s ∷ later) keyed in
-    let here = (and_parts (is_keyed s) (all_keyed later) parts.1).0 in
-    elim stands [
-      | inl put ↦ trie_stops_named earlier s later t x parts.0 here none put
-          (met_stops s.is_array s.rows (texts s.header) 1 t x e)
-      | inr first ↦ rw first.0 (trie_stops_named [] s later nothing x refl here (rw first.0 at none) refl
-          (met_stops s.is_array s.rows (texts s.header) 1 nothing x
-          (sym (met_fresh s.is_array s.rows (texts s.header) 1) ∙ rw first.1 at e)))
-    ]
 
 -- the fault of what is met is told by the header and the offset
 pub same_obstacle_fault : (r s : Section) → r.header ≡ s.header → r.at ≡ s.at → (x : Obstacle)
@@ -56,8 +39,7 @@ same_obstacle_fault r s header at x = grind arith
 -- no such fault is want of memory
 pub stops_without_memory : (t : Trie) (s : Section) (fault : Fault) → StopsSection t s fault
     → fault.kind ≡ out_of_memory → ⊥
-stops_without_memory t s fault (in_the_way is_named, (first, same)) is = cc (ap (λ (f : Fault). f.kind) same)
-stops_without_memory t s fault (met, (first, same)) is = cc (ap (λ (f : Fault). f.kind) same)
+stops_without_memory t s fault (met, (first, same)) is = grind (arith, ap (λ (f : Fault). f.kind) same)
 
 -- the first faults come first
 first_contained : (a b : List Fault) (f : Fault) → Contains a f → Contains (first_of_two a b) f
@@ -78,6 +60,25 @@ crossed_named sections at there =
     (flat_map repeated_faults_of sections ++ section_faults (located sections)) (dotted_fault at)
     (rw there at (tells_sections sections))
 
+-- a section is on the level in the trie of those before it that its path has
+pub level_there : (earlier : List Section) (s : Section) (t : Trie) → Stands earlier t
+    → section_level_in t s ≡ tree_level (located_after (reverse earlier) s)
+level_there earlier s t (inl e) = level_is_tree_level earlier s t e
+level_there earlier s t (inr e) =
+    rw (e.0, e.1, steps_fresh s.is_array (texts s.header)) (level_is_tree_level [] s nothing refl)
+
+-- a section above the limit is one of those that are too deep by their paths
+deep_by_path : (earlier : List Section) (s : Section) (t : Trie) (later : List Section) → Entered earlier t
+    → nesting_limit < section_level_in t s
+    → Contains (deep_sections nesting_limit (located (earlier ++ s ∷ later))) s.at
+deep_by_path earlier s t later entered deep =
+    let ls = located_after (reverse earlier) s ∷ located_from (s ∷ reverse earlier) later in
+    let test : nat_lt nesting_limit (tree_level (located_after (reverse earlier) s)) ≡ true =
+    grind (arith, level_there earlier s t entered.stands, deep) in
+    let here : Contains (deep_sections nesting_limit ls) s.at = rw test (0, omega arith, refl) in
+    rw (at_section earlier s later, deep_append)
+    (Contains-append_right (deep_sections nesting_limit (located earlier)) (deep_sections nesting_limit ls) s.at here)
+
 -- The fault names a clash of the list, or a section of it that is too deep.
 abbrev pub IsNamed : List Section → Fault → Type 0
 IsNamed sections fault =
@@ -92,14 +93,19 @@ pub stop_is_named : (before : List Section) (s : Section) (later : List Section)
 stop_is_named before s later t fault keyed none entered (too_deep, (met, is)) =
     inr (s.at, is, deep_by_path before s t later entered (met_deep s t met))
 stop_is_named before s later t fault keyed none entered (in_the_way stop, (met, is)) =
-    let none_dotted = rw none at (tells_sections (before ++ s ∷ later)) in
-    inl (rw is (section_stops before s later t entered.stands keyed none_dotted stop met))
+    let free = rw none at (tells_sections (before ++ s ∷ later)) in
+    let parts = keyed_parts before (s ∷ later) keyed in
+    let here = (and_parts (is_keyed s) (all_keyed later) parts.1).0 in
+    inl (rw is (elim entered.stands [
+      | inl put ↦ trie_stops_named before s later t stop parts.0 here free put
+          (met_stops s.is_array s.rows (texts s.header) 1 t stop met)
+      | inr first ↦ rw first.0 (trie_stops_named [] s later nothing stop refl here (rw first.0 at free) refl
+          (met_stops s.is_array s.rows (texts s.header) 1 nothing stop
+          (sym (met_fresh s.is_array s.rows (texts s.header) 1) ∙ rw first.1 at met)))
+    ]))
 
 pub fault_is_named : (sections : List Section) (fault : Fault) → all_keyed sections ≡ true
-    → SectionsFault sections fault
-    → NamesClash sections fault
-    ⊎ ((offset : ℕ) × (fault ≡ fault_at nested_too_deeply offset)
-    × Contains (deep_sections nesting_limit (located sections)) offset)
+    → SectionsFault sections fault → IsNamed sections fault
 fault_is_named sections _ keyed (value {at = at} there) = inl (crossed_named sections at there)
 fault_is_named sections fault keyed (section none first) =
     rw first.parts

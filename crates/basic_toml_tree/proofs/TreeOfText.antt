@@ -2,7 +2,6 @@
 use Rattle.std.proofs.Common.{◌≡◌, inl, inr, ℕ, List, [], ◌∷◌, ◌++◌, refl, ap, sym, ◌∙◌, append_assoc, Bool, true}
 use Rattle.std.proofs.Common.{false, Option, MatchOption, Some, None, Result, Ok, Err, arith}
 use Rattle.std.specs.Option.{option_or}
-use Rattle.std.specs.Prelude.{IsUtf8}
 use Rattle.std.specs.Result.{IsErrAnd}
 use Rattle.std.proofs.lemmas.List.{append_cancel_left}
 use Rattle.basic_toml_tokens.specs.Text.{folded}
@@ -13,18 +12,15 @@ use Rattle.basic_toml_grammar.proofs.LawsHold.{keyed}
 use Rattle.basic_toml_grammar.proofs.Grammar.ReaderIsSound.{list_read}
 use Rattle.basic_toml_grammar.proofs.Nesting.LevelsAreWithinDepth.{list_keys}
 use Rattle.basic_toml_explain.specs.Error.{want_of_memory}
-use Rattle.basic_toml_explain.specs.Explain.{ExplainsWhy}
 use Rattle.basic_toml_explain.specs.Stop.{no_memory}
-use Rattle.basic_toml_explain.specs.declared.stop.Stop.{Stop}
 use Rattle.basic_toml_read.specs.declared.reader.SectionReader.{SectionReader}
 use Rattle.basic_toml_read.specs.declared.section.Section as code
 use Rattle.basic_toml_read.specs.SectionView.{section_of}
-use Rattle.basic_toml_read.specs.SectionsAnswer.{IsRefused, memory}
+use Rattle.basic_toml_read.specs.SectionsAnswer.{memory}
 use Rattle.basic_toml_read.specs.FrontOf.{sections_of}
-use Rattle.basic_toml_read.specs.SectionsRead.{onto, IsBehind, SoFar, IsReady, IsStop, IsList, ReadsOn}
+use Rattle.basic_toml_read.specs.SectionsRead.{onto, IsBehind, SoFar, IsReady, IsList, ReadsOn}
 use Rattle.basic_toml_read.specs.declared.reader.Place.{Place}
 use Rattle.basic_toml_read.specs.declared.reader.Place.TheVariants.{Start, Behind}
-use Rattle.basic_toml_read.proofs.ListIsAnswered.{stop_answered}
 use Rattle.basic_toml_read.proofs.SectionsHandedOut.{refused_after}
 use Rattle.basic_toml_grow.specs.declared.clash.Clash.{Clash}
 use Rattle.basic_toml_grow.specs.Clash.{NamesClash, NamesObstacle}
@@ -54,10 +50,10 @@ pub record IsRestSoFar (reader : SectionReader) (list : List Section) (found : O
   pub so_far : SoFar reader (list ++ later)
   pub first : found ≡ first_crossed later
 
-pub rest_goes_on : {old reader : SectionReader} {list : List Section} {found : Option ℕ} (s : Section)
-    (rest : IsRestSoFar old list found) → SoFar reader ((list ++ rest.later) ++ s ∷ []) → {here : Option ℕ}
-    → here ≡ crossed_in s.rows → IsRestSoFar reader list (option_or found here)
-rest_goes_on {old} {reader} {list} {found} s rest so_far {here} is = record {
+pub rest_goes_on : {old reader : SectionReader} {list : List Section} {found here : Option ℕ} (s : Section)
+    (rest : IsRestSoFar old list found) → SoFar reader ((list ++ rest.later) ++ s ∷ []) → here ≡ crossed_in s.rows
+    → IsRestSoFar reader list (option_or found here)
+rest_goes_on s rest so_far is = record {
   later = rest.later ++ s ∷ [];
   so_far = rw append_assoc at so_far;
   first = grind (arith, rest.first, is, crossed_joined rest.later (s ∷ []));
@@ -66,10 +62,6 @@ rest_goes_on {old} {reader} {list} {found} s rest so_far {here} is = record {
 -- how it ends
 list_of : (bytes : List ℕ) (list : List Section) → IsList bytes list → IsListOf bytes list
 list_of bytes list is = record { grammar = list_read (folded bytes) list is.is; limit = is.limit }
-
-pub stops : {bytes now : List ℕ} {stop : Stop} (fault : Fault) → IsUtf8 bytes → now ≡ bytes → IsStop now stop
-    → ExplainsWhy bytes stop.why stop.at fault → IsRefused bytes fault
-stops {bytes} {now} {stop} fault utf8 same is told = stop_answered bytes stop fault utf8 (rw same at is) told
 
 -- a section that was handed out is the first of those that come after the sections before it
 next_is_first : (reader : SectionReader) (list : List Section) (s : Section) (later : List Section)
@@ -83,7 +75,7 @@ next_is_first reader list s later so_far is = at_place reader.place so_far
     joined None e = absurd (cc)
     joined (Some more) e =
         let same : (list ++ s ∷ []) ++ more ≡ list ++ later = cc in
-        (more, append_cancel_left list later (s ∷ more) (sym same ∙ append_assoc list (s ∷ []) more))
+        (more, append_cancel_left list later (s ∷ more) (sym (rw append_assoc at same)))
 
     at_place : (p : Place) → IsBehind reader.text.now p (list ++ s ∷ []) → (more : List Section) × (later ≡ s ∷ more)
     at_place Start so_far = absurd (some_listed list s [] so_far)
@@ -98,8 +90,7 @@ module _ {bytes : List ℕ} {old reader : SectionReader} {headers : List (ℕ ×
   -- there is none
   pub ends_well : b ≡ false → IsTreeOf bytes (record { headers = headers; root = root })
   ends_well none =
-      let is : IsList reader.text.now grows.list = rw none at (on.read grows.list grows.so_far) in
-      let here = list_of bytes grows.list (rw text_is at is) in record {
+      let here = list_of bytes grows.list (rw (none, text_is) at (on.read grows.list grows.so_far)) in record {
         sections = grows.list;
         list = here;
         resolved = entered_resolved grows.list _ grows.have (keyed (folded bytes) grows.list here.grammar)
@@ -120,17 +111,14 @@ module _ {bytes : List ℕ} {old reader : SectionReader} {headers : List (ℕ ×
 
   -- it does not go into the tree
   pub clashes : b ≡ true → (c : Clash) (fault : Fault)
-      → NamesObstacle (first_obstacle (section_of s) (table_trie root)) c
-      → (now : code.Section) → now.at ≡ s.at → now.header ≡ s.header → TellsClash bytes grows.list now c fault
-      → AnswersText bytes (Err fault)
+      → NamesObstacle (first_obstacle (section_of s) (table_trie root)) c → (now : code.Section) → now.at ≡ s.at
+      → now.header ≡ s.header → TellsClash bytes grows.list now c fault → AnswersText bytes (Err fault)
   clashes is c fault met now same header (inl refused_text) = inl refused_text
   clashes is c fault met now same header (inr told) =
       let all = grows.list ++ told.later in
       let here = list_of bytes all told.is in
-      let none = none_crossed grows.have
-      (keyed_parts grows.list told.later (keyed (folded bytes) all here.grammar)).0 in
-      let all_crossed : first_crossed all ≡ first_crossed told.later =
-      crossed_joined grows.list told.later ∙ rw none refl in
+      let keys = (keyed_parts grows.list told.later (keyed (folded bytes) all here.grammar)).0 in
+      let all_crossed = rw (none_crossed grows.have keys) at (crossed_joined grows.list told.later) in
       let first = next_is_first reader grows.list (section_of s) told.later (so_far_on is) (rw text_is told.is) in
       (elim (first_crossed told.later) as (λ o. first_crossed told.later ≡ o
       → MatchOption o (NamesClash now c fault) (λ at. fault ≡ dotted_fault at) → AnswersText bytes (Err fault)) [

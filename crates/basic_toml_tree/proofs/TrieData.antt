@@ -21,8 +21,7 @@ use Rattle.basic_toml_grow.specs.Item.{item_trie, child_trie, table_trie, by_num
 use Rattle.basic_toml_tree.specs.Data.{data_of, child_data, table_data}
 
 -- the data at numbers
-items_numbers : (n : ℕ) (ts : List Trie)
-    → growth.items_of (bare_tries (by_numbers n ts)) ≡ items_of (map tree_data ts)
+items_numbers : (n : ℕ) (ts : List Trie) → growth.items_of (bare_tries (by_numbers n ts)) ≡ items_of (map tree_data ts)
 items_numbers n [] = refl
 items_numbers n (t ∷ ts) = ap (λ ds. item (tree_data t) ds) (items_numbers (suc n) ts)
 
@@ -48,39 +47,26 @@ all_agree : {A : Type 0} (f : A → Trie) (g : A → Data) (xs : List ((x : A) �
 all_agree f g [] = refl
 all_agree f g (e ∷ es) = rw (e.1, all_agree f g es) refl
 
-abbrev tries_of_entries : List (List ℕ × Child) → List (List ℕ × Data)
-tries_of_entries ps =
-    map (λ (p : List ℕ × Trie). (p.0, tree_data p.1)) (map (λ (p : List ℕ × Child). (p.0, child_trie p.1)) ps)
-
-abbrev data_of_entries : List (List ℕ × Child) → List (List ℕ × Data)
-data_of_entries ps = map (λ (p : List ℕ × Child). (p.0, child_data p.1)) ps
-
 entries_agree : (ps : List (List ℕ × ((c : Child) × OfChild c)))
-    → tries_of_entries (map (λ p. (p.0, p.1.0)) ps) ≡ data_of_entries (map (λ p. (p.0, p.1.0)) ps)
+    → let entries = map {B = List ℕ × Child} (λ p. (p.0, p.1.0)) ps in
+    map {B = List ℕ × Data} (λ p. (p.0, tree_data p.1)) (map {B = List ℕ × Trie} (λ p. (p.0, child_trie p.1)) entries)
+    ≡ map (λ p. (p.0, child_data p.1)) entries
 entries_agree [] = refl
 entries_agree (p ∷ ps) = rw (p.1.1, entries_agree ps) refl
 
 section_agrees : (rows : List Row) → tree_data (rows_trie rows) ≡ section_data rows
-section_agrees rows =
-    rw (keys_data (Some (table false true false)) (map row_trie rows), rows_agree rows) refl
+section_agrees rows = rw (keys_data (Some (table false true false)) (map row_trie rows), rows_agree rows) refl
 
-sections_agree : (ts : List SectionTable)
-    → map tree_data (map (λ t. rows_trie t.1) ts) ≡ map (λ t. section_data t.1) ts
+sections_agree : (ts : List SectionTable) → map tree_data (map (λ t. rows_trie t.1) ts) ≡ map (λ t. section_data t.1) ts
 sections_agree [] = refl
 sections_agree (t ∷ ts) = rw (section_agrees t.1, sections_agree ts) refl
 
 -- an item whose parts come with what is to be shown of them
-abbrev Item1 : Type 0
-Item1 = (i : Item) × OfItem i
+abbrev With : {A : Type 0} → (A → Type 0) → Type 0
+With {A} P = (x : A) × P x
 
-abbrev Child1 : Type 0
-Child1 = (c : Child) × OfChild c
-
-abbrev Table1 : Type 0
-Table1 = (t : Table) × OfTable t
-
-item_agrees : (y : Item-F Item1 Child1 Table1)
-    → OfItem (roll-Item (map-Item Item1 Child1 Table1 Item Child Table (λ e. e.0) (λ e. e.0) (λ e. e.0) y))
+item_agrees : (y : Item-F (With OfItem) (With OfChild) (With OfTable))
+    → OfItem (roll-Item (map-Item _ _ _ Item Child Table (λ e. e.0) (λ e. e.0) (λ e. e.0) y))
 item_agrees (Item-F.Array es) = search (rules, the_lemmas, all_agree child_trie child_data es.items)
 item_agrees (Item-F.Section rs) = simp the_lemmas (section_agrees rs)
 item_agrees (Item-F.Inline e) = search (rules, the_lemmas, e.value.1)
@@ -100,21 +86,19 @@ item_agrees (Item-F.Sections tables) =
     ∙ rw (sections_agree tables.value.0, section_agrees tables.value.1.1) refl)
 item_agrees y = search (rules, the_lemmas)
 
-item_case : (x : Item-F Item Child Table) (y : Item-F Item1 Child1 Table1)
-    → map-Item Item1 Child1 Table1 Item Child Table (λ e. e.0) (λ e. e.0) (λ e. e.0) y ≡ x → OfItem (roll-Item x)
+item_case : (x : Item-F Item Child Table) (y : Item-F (With OfItem) (With OfChild) (With OfTable))
+    → map-Item _ _ _ Item Child Table (λ e. e.0) (λ e. e.0) (λ e. e.0) y ≡ x → OfItem (roll-Item x)
 item_case x y is = subst (λ x. OfItem (roll-Item x)) is (item_agrees y)
 
-child_case : (x : Child-F Item Child Table) (y : Child-F Item1 Child1 Table1)
-    → map-Child Item1 Child1 Table1 Item Child Table (λ e. e.0) (λ e. e.0) (λ e. e.0) y ≡ x → OfChild (roll-Child x)
-child_case x y is =
-    let agree : OfItem x.item = subst (λ z. OfItem z.item) is y.item.1 in search (rules, the_lemmas, agree)
+child_case : (x : Child-F Item Child Table) (y : Child-F (With OfItem) (With OfChild) (With OfTable))
+    → map-Child _ _ _ Item Child Table (λ e. e.0) (λ e. e.0) (λ e. e.0) y ≡ x → OfChild (roll-Child x)
+child_case x y is = subst (λ x. OfChild (roll-Child x)) is (search (rules, the_lemmas, y.item.1))
 
-table_case : (x : Table-F Item Child Table) (y : Table-F Item1 Child1 Table1)
-    → map-Table Item1 Child1 Table1 Item Child Table (λ e. e.0) (λ e. e.0) (λ e. e.0) y ≡ x → OfTable (roll-Table x)
+table_case : (x : Table-F Item Child Table) (y : Table-F (With OfItem) (With OfChild) (With OfTable))
+    → map-Table _ _ _ Item Child Table (λ e. e.0) (λ e. e.0) (λ e. e.0) y ≡ x → OfTable (roll-Table x)
 table_case x y is =
-    let agree : tries_of_entries x.entries ≡ data_of_entries x.entries =
-    subst (λ z. tries_of_entries z.entries ≡ data_of_entries z.entries) is (entries_agree y.entries) in
-    simp the_lemmas (keys_data (Some (table x.passed x.named x.dotted)) _ ∙ ap (λ ds. Data.table (members_of ds)) agree)
+    subst (λ x. OfTable (roll-Table x)) is (simp the_lemmas (keys_data (Some (table y.passed y.named y.dotted)) _
+    ∙ ap (λ ds. Data.table (members_of ds)) (entries_agree y.entries)))
 
 pub item_trie_data : (i : Item) → tree_data (item_trie i) ≡ data_of i
 item_trie_data = ind-Item OfItem OfChild OfTable item_case child_case table_case

@@ -7,26 +7,22 @@ use Rattle.std.proofs.lemmas.Bool.{false≢true, or_parts, cases_Bool}
 use Rattle.basic_toml_grammar.specs.Sections.{Section}
 use Rattle.basic_toml_grammar.specs.Steps.{Path}
 use Rattle.basic_toml_grammar.specs.IndexedPath.{Located, located}
-use Rattle.basic_toml_grammar.specs.RowClash.{rows_clash, has_row_clash}
-use Rattle.basic_toml_grammar.specs.SectionClash.{sections_clash}
+use Rattle.basic_toml_grammar.specs.RowClash.{rows_clash}
 use Rattle.basic_toml_grammar.specs.Growth.{nothing_grown, grow_all}
 use Rattle.basic_toml_grammar.specs.Mentions.{mentions}
 use Rattle.basic_toml_grammar.specs.Document.{has_clash, tree_of_sections}
 use Rattle.basic_toml_grammar.specs.Entering.{all_keyed, all_keyed_within}
 use Rattle.basic_toml_grammar.specs.Trie.{Trie, nothing, put_sections}
-use Rattle.basic_toml_grammar.specs.Nodes.{Node, is_made, last_at, node_of_sections, node_at}
+use Rattle.basic_toml_grammar.specs.Nodes.{is_made, last_at, node_at}
 use Rattle.basic_toml_grammar.proofs.Tries.SectionsInATrie.{sections_put, sections_grown}
 use Rattle.basic_toml_grammar.proofs.Tries.NumbersInTurn.{numbers_in_turn}
 use Rattle.basic_toml_grammar.proofs.Nesting.LevelsAreWithinDepth.{list_keys}
 use Rattle.basic_toml_grammar.proofs.SameMeaning.OldDocumentsStand.{list_keyed}
-use Rattle.basic_toml_grow.specs.Origins.{Origin}
-use Rattle.basic_toml_grow.specs.Ways.{sections_origins}
 use Rattle.basic_toml_tree.specs.Paths.{data_along}
 use Rattle.basic_toml_tree.specs.Statements.{EveryNodeIsForetold, EveryNodeOfAListIsForetold}
-use Rattle.basic_toml_tree.proofs.Origins.RowsAreNodes.{Same, sections_same}
+use Rattle.basic_toml_tree.proofs.Origins.RowsAreNodes.{sections_same}
 use Rattle.basic_toml_tree.proofs.Nodes.RowNodesTold.{located_any, located_keyed}
-use Rattle.basic_toml_tree.proofs.Foretold.PathsReached.{InTurn, bare_in_turn, tree_leads}
-use Rattle.basic_toml_tree.proofs.Foretold.ValuesFound.{sections_found}
+use Rattle.basic_toml_tree.proofs.Foretold.PathsReached.{InTurn, bare_in_turn, tree_leads, sections_found}
 
 -- the elements of a list without clashes stand in the order of their numbers
 in_turn : (sections : List Section) → all_keyed sections ≡ true → has_clash sections ≡ false
@@ -36,11 +32,7 @@ in_turn sections keyed free = go (put_sections sections nothing) refl (sections_
     go : (o : Option Trie) → put_sections sections nothing ≡ o → is_some o ≡ true
         → InTurn (grow_all nothing_grown (mentions (located sections)))
     go None is e = absurd (false≢true e)
-    go (Some t) is e =
-        subst InTurn (sections_grown sections t is) (bare_in_turn t (numbers_in_turn sections t is))
-
-told : (m : Option Node) (o : Option Origin) → Same m o → is_some o ≡ true → is_some m ≡ true
-told m o same e = grind arith
+    go (Some t) is e = subst InTurn (sections_grown sections t is) (bare_in_turn t (numbers_in_turn sections t is))
 
 pub foretold_there : (sections : List Section) (p : Path) → all_keyed sections ≡ true
     → all_keyed_within sections ≡ true → has_clash sections ≡ false
@@ -48,12 +40,11 @@ pub foretold_there : (sections : List Section) (p : Path) → all_keyed sections
 foretold_there sections [] keyed within free e = refl
 foretold_there sections (s ∷ p) keyed within free e = elim (cases_Bool (is_made ls (s ∷ p))) [
   | inl made ↦ rw made refl
-  | inr not ↦ rw not (told (node_of_sections ls (last_at sections) ls (s ∷ p)) (sections_origins 0 ls (s ∷ p))
-      (sections_same ls (last_at sections) 0 ls (s ∷ p) not
-      (located_any (λ s. rows_clash s.rows) [] sections
-      ∙ (or_parts (has_row_clash sections) (sections_clash sections) free).0)
-      (located_keyed [] sections ∙ within))
-      (sections_found 0 ls (s ∷ p) not (tree_leads (mentions ls) s p (in_turn sections keyed free) e)))
+  | inr not ↦
+      let apart = located_any (λ s. rows_clash s.rows) [] sections ∙ (or_parts _ _ free).0 in
+      let same = sections_same ls (last_at sections) 0 ls (s ∷ p) not apart (located_keyed [] sections ∙ within) in
+      let found = sections_found 0 ls (s ∷ p) not (tree_leads (mentions ls) s p (in_turn sections keyed free) e) in
+      rw not (grind (arith, same, found))
 ]
   where
     ls : List Located
@@ -61,9 +52,8 @@ foretold_there sections (s ∷ p) keyed within free e = elim (cases_Bool (is_mad
 
 pub every_node_of_a_list : EveryNodeOfAListIsForetold
 every_node_of_a_list sections tree p keyed within means there =
-    let free : has_clash sections ≡ false = grind arith in
     let same : tree_of_sections sections ≡ tree = grind arith in
-    foretold_there sections p keyed within free (rw same there)
+    foretold_there sections p keyed within (grind arith) (rw same there)
 
 pub every_node : EveryNodeIsForetold
 every_node text sections tree p grammar means there =

@@ -4,7 +4,7 @@ use Rattle.std.proofs.Common.{None, refl, ap, sym, length, drop, slice_get, opti
 use Rattle.std.specs.Prelude.{◌||◌, ◌&&◌, if◌then◌else◌}
 use Rattle.std.specs.List.{list_any, list_all}
 use Rattle.std.specs.Option.{option_or}
-use Rattle.std.proofs.lemmas.Bool.{false≢true, and_parts, or_parts, cases_Bool, or_right, and_right}
+use Rattle.std.proofs.lemmas.Bool.{false≢true, and_parts, or_parts, cases_Bool, and_right}
 use Rattle.basic_toml_grammar.specs.Sections.{Key, KeyTexts, texts, Raw, Elements, no_elements, element}
 use Rattle.basic_toml_grammar.specs.Sections.{Rows, no_rows, row}
 use Rattle.basic_toml_grammar.specs.Steps.{Step, key, number, Path, step_eq, begins, overlap, steps_of}
@@ -39,8 +39,7 @@ Same n o = option_map of_node n ≡ option_map of_origin o
 
 -- a row, by how its keys begin a path
 abbrev by_keys : Path → Origin → Origins → Path → Option Origin
-by_keys steps o f p =
-    if begins steps p then f (drop (length steps) p) else if begins p steps then Some o else None
+by_keys steps o f p = if begins steps p then f (drop (length steps) p) else if begins p steps then Some o else None
 
 keys_begin : (ks : KeyTexts) (o : Origin) (f : Origins) (r : Step) (q : Path)
     → row_origins ks o f (r ∷ q) ≡ by_keys (steps_of ks) o f (r ∷ q)
@@ -48,35 +47,26 @@ keys_begin [] o f r q = refl
 keys_begin (k ∷ l ∷ ls) o f r (t ∷ p) = grind (arith, turn_eq (key k) r, keys_begin (l ∷ ls) o f t p)
 keys_begin (k ∷ ks) o f r q = grind (arith, turn_eq (key k) r)
 
--- two paths that begin a third overlap, and so do two of which one goes on from a third that the other begins
-pub both_begin : (p q x : Path) → begins p x ≡ true → begins q x ≡ true → overlap p q ≡ true
-both_begin [] q x a b = refl
-both_begin (s ∷ p) [] x a b = or_right (begins (s ∷ p) []) true refl
-both_begin (s ∷ p) (t ∷ q) [] a b = absurd (false≢true a)
-both_begin (s ∷ p) (t ∷ q) (u ∷ x) a b = grind (arith, step_is s u, step_is t u, step_same u, both_begin p q x)
-
 pub goes_on : (p x q : Path) → begins p x ≡ true → begins x q ≡ true → begins p q ≡ true
 goes_on [] x q a b = refl
-goes_on (s ∷ p) [] q a b = absurd (false≢true a)
-goes_on (s ∷ p) (t ∷ x) [] a b = absurd (false≢true b)
 goes_on (s ∷ p) (t ∷ x) (u ∷ q) a b = grind (arith, step_is s t, goes_on p x q)
+goes_on p x q a b = absurd (cc)
 
 -- what the one begins, the other does not, where they do not overlap
 pub neither_begins : (p q x : Path) → begins p x ≡ true → overlap p q ≡ false
     → (begins q x ≡ false) × (begins x q ≡ false)
-neither_begins p q x here apart = (grind (arith, both_begin p q x here), grind (arith, goes_on p x q here))
+neither_begins (s ∷ p) (t ∷ q) (u ∷ x) here apart =
+    let on = neither_begins p q x in
+    (grind (arith, step_is s u, turn_eq u t, on), grind (arith, step_is s u, turn_eq u t, on))
+neither_begins p q x here apart = absurd (cc)
 
 -- below the value of a row no later row brings anything
 none_later : (s : ℕ) (steps : Path) (rows : Rows) (r : Step) (q : Path) → begins steps (r ∷ q) ≡ true
     → any_overlaps steps rows ≡ false → rows_origins s rows (r ∷ q) ≡ None
 none_later s steps no_rows r q here apart = refl
 none_later s steps (row ks at v rows) r q here apart =
-    grind (
-      arith,
-      keys_begin (texts ks) (table_origin false at s) (value_origins s at v) r q,
-      neither_begins steps (steps_of (texts ks)) (r ∷ q) here,
-      none_later s steps rows r q here,
-    )
+    let first = keys_begin (texts ks) (table_origin false at s) (value_origins s at v) r q in
+    grind (arith, first, neither_begins steps (steps_of (texts ks)) (r ∷ q) here, none_later s steps rows r q here)
 
 -- one of three: below the value, a table on the way to it, or in a later row
 chosen : (a b : Bool) (m n : Option Node) (o p : Option Origin) (d : Node) (e : Origin)
@@ -128,11 +118,9 @@ mutual
       → Same (node_among keys outer es n p) (under (slice_get (elements_origins s es) n) p)
   among_same keys outer s no_elements n p apart keyed = refl
   among_same keys outer s (element at v es) zero p apart keyed =
-      value_same keys outer s at v p (or_parts (value_clashes v) (elements_clash es) apart).0
-      (and_parts (value_keyed v) (elements_keyed es) keyed).0
+      value_same keys outer s at v p (or_parts _ _ apart).0 (and_parts _ _ keyed).0
   among_same keys outer s (element at v es) (suc n) p apart keyed =
-      among_same keys outer s es n p (or_parts (value_clashes v) (elements_clash es) apart).1
-      (and_parts (value_keyed v) (elements_keyed es) keyed).1
+      among_same keys outer s es n p (or_parts _ _ apart).1 (and_parts _ _ keyed).1
 
   by_same : (keys : KeyTexts) (outer : Option ℕ) (s : ℕ) (all rows : Rows) (r : Step) (q : Path)
       → rows_clash rows ≡ false → keyed_within rows ≡ true
@@ -174,9 +162,8 @@ module _ (ls : List Located) (last : Option ℕ) (l : Located) (n : ℕ) where
 
   -- and elsewhere
   apart_after : (w steps p : Path) → begins w p ≡ false → begins p w ≡ false → begins p (w ++ steps) ≡ false
-  apart_after [] steps p not back = absurd (false≢true (sym not))
-  apart_after (s ∷ w) steps [] not back = absurd (false≢true (sym back))
   apart_after (s ∷ w) steps (t ∷ p) not back = grind (arith, turn_eq s t, apart_after w steps p)
+  apart_after w steps p not back = absurd (cc)
 
   along_apart : (w p : Path) (f : Origins) → begins w p ≡ false → along w f p ≡ None
   along_apart [] p f not = absurd (false≢true (sym not))
@@ -213,9 +200,6 @@ module _ (ls : List Located) (last : Option ℕ) (l : Located) (n : ℕ) where
     | inr not ↦ rw (rows_apart l.section.rows p not back, along_apart l.path p (rows_origins n l.section.rows) not) refl
   ]
 
-or_same : (m n : Option Node) (o p : Option Origin) → Same m o → Same n p → Same (option_or m n) (option_or o p)
-or_same m n o p first later = grind arith
-
 pub sections_same : (ls : List Located) (last : Option ℕ) (n : ℕ) (later : List Located) (p : Path)
     → list_any (λ l. begins p l.path) later ≡ false → list_any (λ l. rows_clash l.section.rows) later ≡ false
     → list_all (λ l. keyed_within l.section.rows) later ≡ true
@@ -225,5 +209,4 @@ sections_same ls last n (l ∷ later) p back apart keyed =
     let b = or_parts (begins p l.path) (list_any (λ l. begins p l.path) later) back in
     let a = or_parts (rows_clash l.section.rows) (list_any (λ l. rows_clash l.section.rows) later) apart in
     let k = and_parts (keyed_within l.section.rows) (list_all (λ l. keyed_within l.section.rows) later) keyed in
-    or_same _ (node_of_sections ls last later p) _ (sections_origins (suc n) later p)
-    (section_same ls last l n p b.0 a.0 k.0) (sections_same ls last (suc n) later p b.1 a.1 k.1)
+    grind (arith, section_same ls last l n p b.0 a.0 k.0, sections_same ls last (suc n) later p b.1 a.1 k.1)

@@ -1,7 +1,8 @@
 use Rattle.std.proofs.Common.{◌++◌, ◌∷◌, [], ap, ◌∙◌, inl}
 use Rattle.basic_toml_read.specs.SectionView.{section_of}
+use Rattle.basic_toml_read.proofs.ListIsAnswered.{stop_answered}
 use Rattle.basic_toml_tree.proofs.SectionsGrown.{more_entered, none_entered}
-use Rattle.basic_toml_tree.proofs.TreeOfText.{stops, text_is, ends_well, so_far_on, wants_memory, clashes}
+use Rattle.basic_toml_tree.proofs.TreeOfText.{text_is, ends_well, so_far_on, wants_memory, clashes}
 use Rattle.basic_toml_tree.proofs.text.take_sections.Goals as goal
 
 pub loop-stop-init : goal.loop-stop-init
@@ -23,16 +24,16 @@ returns-in-Ok-false c = ends_well c.loop-stop.invariant.0 c.in-Ok-false.ensures 
 pub returns-in-Err : goal.returns-in-Err
 returns-in-Err c =
     let grows = c.loop-stop.invariant.0 in
-    inl (stops c.explain.result c.utf8.text (ap (λ t. t.now) c.in-Err.ensures.text ∙ grows.text)
-    (c.in-Err.ensures.read grows.list grows.so_far) c.explain.ensures)
+    let text = ap (λ t. t.now) c.in-Err.ensures.text ∙ grows.text in
+    inl (stop_answered _ _ c.explain.result c.utf8.text
+    (rw text at (c.in-Err.ensures.read grows.list grows.so_far)) c.explain.ensures)
 
 pub returns-in-Err-enter_section : goal.returns-in-Err-enter_section
 returns-in-Err-enter_section c =
     let grows = c.loop-stop.invariant.0 in
     let kept = c.in-Err-enter_section.ensures in
-    clashes grows c.in-Ok-true.ensures c.in-Ok-true.field-0-test c.in-Err-enter_section.clash c.clash_error.result
-    kept.named c.enter_section.new.section kept.at kept.header
-    (c.clash_error.ensures grows.list (rw (grows.text, ← c.place-place.ensures) at grows.so_far))
+    clashes grows c.in-Ok-true.ensures c.in-Ok-true.field-0-test _ _ kept.named c.enter_section.new.section kept.at
+    kept.header (c.clash_error.ensures grows.list (rw (grows.text, ← c.place-place.ensures) at grows.so_far))
 
 -- it goes in
 pub loop-stop-preserved : goal.loop-stop-preserved
@@ -45,8 +46,7 @@ loop-stop-preserved c =
         text = text_is grows read;
         ready = read.ready;
         so_far = so_far_on grows read c.in-Ok-true.field-0-test;
-        have = more_entered grows.have (section_of c.next.new.section) c.len-number.result c.enter_section.new.root
-            c.push.new.self c.len-number.ensures
+        have = more_entered grows.have _ _ _ _ c.len-number.ensures
             (record { is_in = new.entered; grows = new.origins; marks = new.marks })
             (rw (new.at, new.header) at c.in_ok-push.ensures.ok);
       },
@@ -55,5 +55,4 @@ loop-stop-preserved c =
 
 pub returns-in_err-push : goal.returns-in_err-push
 returns-in_err-push c =
-    wants_memory c.loop-stop.invariant.0 c.in-Ok-true.ensures c.in-Ok-true.field-0-test _ c.from_residual.result
-    c.from_residual.ensures.1
+    wants_memory c.loop-stop.invariant.0 c.in-Ok-true.ensures c.in-Ok-true.field-0-test _ _ c.from_residual.ensures.1

@@ -1,4 +1,4 @@
-use Rattle.basic_toml_tree.proofs.SectionsResolved.{Goes}
+use Rattle.basic_toml_tree.proofs.SectionsGrown.{Goes}
 use Rattle.basic_toml_tree.proofs.tree.grow.Given as goal
 
 -- the sections so far are entered, with their headers, and those that are left are as they were

@@ -1,11 +1,7 @@
 use Rattle.std.proofs.Common.{ap, arith, sym, ◌∙◌, map}
-use Rattle.basic_toml_value.specs.Data.{items_of}
 use Rattle.basic_toml_value.specs.View.{view}
 use Rattle.basic_toml_value.specs.Entries.{texts_of}
-use Rattle.basic_toml_value.proofs.Sizes.{data_size, items_size}
-use Rattle.basic_toml_plain.specs.Plain.{element_data, rows_data}
-use Rattle.basic_toml_plain.specs.PlainTables.{tables_in}
-use Rattle.basic_toml_plain.specs.Values.{section_data}
+use Rattle.basic_toml_value.proofs.Sizes.{data_size}
 use Rattle.basic_toml_plain.proofs.DataParts.{items_size-at, items_size-front, items_size-last, members_size-at}
 use Rattle.basic_toml_plain.proofs.DataParts.{mapped_more, sections_seen, table_seen, entries_seen}
 use Rattle.basic_toml_tree.specs.Data.{data_of, child_data, table_data, child_pair}
@@ -26,8 +22,7 @@ entries_of-value_of-requires t c =
 
 pub table_of-entries_of-requires : goal.table_of-entries_of-requires
 table_of-entries_of-requires t c =
-    let same = table_of_pairs c.args.table.now c.entries.result.now c.entries.ensures.pairs in
-    (omega (arith, ap data_size same), tt)
+    (omega (arith, ap data_size (table_of_pairs c.args.table.now c.entries.result.now c.entries.ensures.pairs)), tt)
 
 pub table_of-from_parts-requires : goal.table_of-from_parts-requires
 table_of-from_parts-requires t c =
@@ -50,8 +45,7 @@ table_of-returns-clause-table t c =
 
 pub tables_of-table_of-requires : goal.tables_of-table_of-requires
 tables_of-table_of-requires t c =
-    let smaller = items_size-at table_data _ _ _ c.loop-table-test.true c.table-item.is in
-    (omega (arith, smaller), tt)
+    (omega (arith, items_size-at table_data _ _ _ c.loop-table-test.true c.table-item.is), tt)
 
 pub tables_of-loop-table-preserved : goal.tables_of-loop-table-preserved
 tables_of-loop-table-preserved t c =
@@ -63,9 +57,7 @@ value_of-tables_of-requires t c =
     let tables = c.in-Tables.tables in
     let front = items_size-front (map table_data tables.value.0.items) (table_data tables.value.1) in
     let same = ap data_of c.in-Tables.is ∙ tables_data tables in
-    let slice = ap (λ ts. items_size (items_of (map table_data ts))) c.as_slice-in-Tables.ensures.value in
-    let earlier = ap (λ ts. items_size (items_of (map table_data ts.0.items))) c.deref-in-Tables.ensures in
-    (omega (arith, ap data_size same), tt)
+    (rw (c.as_slice-in-Tables.ensures.value, c.deref-in-Tables.ensures) (omega (arith, ap data_size same)), tt)
 
 pub value_of-table_of-requires-in-Tables : goal.value_of-table_of-requires-in-Tables
 value_of-table_of-requires-in-Tables t c =
@@ -76,27 +68,22 @@ value_of-table_of-requires-in-Tables t c =
 
 pub value_of-returns-in_ok-push-in-Tables : goal.value_of-returns-in_ok-push-in-Tables
 value_of-returns-in_ok-push-in-Tables t c =
-    let tables = c.in-Tables.tables in
     rw c.in-Tables.is
-    (tables_seen c.in_ok-elements-in-Tables.elements c.push.new.self _ tables c.in_ok-push-in-Tables.ensures.items
+    (tables_seen c.in_ok-elements-in-Tables.elements _ _ c.in-Tables.tables c.in_ok-push-in-Tables.ensures.items
     (rw (← c.deref-in-Tables.ensures, ← c.as_slice-in-Tables.ensures.value) c.in_ok-elements-in-Tables.ensures)
     (table_seen _ ∙ rw c.deref-in-Tables-2.ensures at c.in_ok-table_of-in-Tables.ensures.table))
 
 pub value_of-returns-in_ok-plain_values-in-Plain : goal.value_of-returns-in_ok-plain_values-in-Plain
 value_of-returns-in_ok-plain_values-in-Plain t c =
-    plain_seen c.in_ok-plain_values-in-Plain.field-0 c.in-Plain.array
-    (c.in_ok-plain_values-in-Plain.ensures ∙ ap (map element_data) c.elements.ensures.elements)
-    ∙ sym (ap data_of c.in-Plain.is)
+    rw c.in-Plain.is (plain_seen _ _ (rw c.elements.ensures.elements at c.in_ok-plain_values-in-Plain.ensures))
 
 pub value_of-returns-in_ok-plain_table-in-Section : goal.value_of-returns-in_ok-plain_table-in-Section
 value_of-returns-in_ok-plain_table-in-Section t c =
-    table_seen c.in_ok-plain_table-in-Section.field-0
-    ∙ c.in_ok-plain_table-in-Section.ensures.table ∙ ap rows_data c.rows-in-Section.ensures.rows
-    ∙ sym (ap data_of c.in-Section.is ∙ section_rows c.in-Section.table c.rows-in-Section.ensures.plain)
+    let rows = c.rows-in-Section.ensures in
+    rw (c.in-Section.is, section_rows c.in-Section.table rows.plain, ← rows.rows, table_seen)
+    c.in_ok-plain_table-in-Section.ensures.table
 
 pub value_of-returns-in_ok-plain_tables-in-Sections : goal.value_of-returns-in_ok-plain_tables-in-Sections
 value_of-returns-in_ok-plain_tables-in-Sections t c =
-    sections_seen c.in_ok-plain_tables-in-Sections.field-0 c.in-Sections.tables.value
-    (c.in_ok-plain_tables-in-Sections.ensures
-    ∙ ap (λ ts. map (λ t. section_data t.1) (tables_in ts)) c.deref-in-Sections.ensures)
-    ∙ sym (ap data_of c.in-Sections.is ∙ sections_item c.in-Sections.tables)
+    rw (c.in-Sections.is, sections_item c.in-Sections.tables)
+    (sections_seen _ _ (rw c.deref-in-Sections.ensures at c.in_ok-plain_tables-in-Sections.ensures))

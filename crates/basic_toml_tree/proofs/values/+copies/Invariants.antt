@@ -26,8 +26,7 @@ abbrev pub invariant-elements_of-loop-child : goal.invariant-elements_of-loop-ch
 invariant-elements_of-loop-child l = map view l.elements.items ≡ map child_data (take l.child-index l.children)
 
 abbrev pub invariant-tables_of-loop-table : goal.invariant-tables_of-loop-table
-invariant-tables_of-loop-table l =
-    map view l.elements.items ≡ map table_data (take l.table-index l.tables)
+invariant-tables_of-loop-table l = map view l.elements.items ≡ map table_data (take l.table-index l.tables)
 
 abbrev pub invariant-entries_of-loop-pair : goal.invariant-entries_of-loop-pair
 invariant-entries_of-loop-pair l = map value_pair l.copies.items ≡ map child_pair (take l.pair-index l.pairs)

@@ -1,8 +1,5 @@
-use Rattle.std.proofs.Common.{◌≡◌, List, ◌∷◌, ◌++◌, map, ap, arith, sym, ◌∙◌, refl}
-use Rattle.basic_toml_value.specs.Data.{items_of}
-use Rattle.basic_toml_value.specs.View.{view}
-use Rattle.basic_toml_value.proofs.Sizes.{data_size, items_size}
-use Rattle.basic_toml_plain.specs.Values.{value_pair}
+use Rattle.std.proofs.Common.{map, ap, arith, sym, ◌∙◌, refl}
+use Rattle.basic_toml_value.proofs.Sizes.{data_size}
 use Rattle.basic_toml_plain.proofs.DataParts.{items_size-rest, items_size-front, items_size-last, members_size-rest}
 use Rattle.basic_toml_plain.proofs.DataParts.{table_seen, entries_seen}
 use Rattle.basic_toml_tree.specs.Data.{child_data, table_data, child_pair}
@@ -12,30 +9,25 @@ use Rattle.basic_toml_value.proofs.KeysSeen.{keys_of-seen}
 use Rattle.basic_toml_tree.proofs.SectionData.{section_rows}
 use Rattle.basic_toml_tree.proofs.values.+moves.Goals as goal
 
--- of parts that are moved, the first that is left and the others
-first_left : {A D : Type 0} (f : A → D) (xs : List D) {x : A} {left rest whole all : List A} → left ≡ x ∷ rest
-    → whole ≡ all → xs ++ map f left ≡ map f whole → xs ++ map f (x ∷ rest) ≡ map f all
-first_left f xs first start made = ap (λ l. xs ++ map f l) (sym first) ∙ made ∙ ap (map f) start
-
 pub into_elements-into_value-requires : goal.into_elements-into_value-requires
 into_elements-into_value-requires t c =
     let start = c.into_iter-child-iterator.ensures.into_iter_gives ∙ c.drain-child-items.ensures in
-    let smaller = items_size-rest (map view c.loop-child.elements.items) child_data _ _ _
-    (first_left child_data _ c.in-Some.ensures.steps start c.loop-child.invariant) in
+    let left = rw (c.in-Some.ensures.steps, start) at c.loop-child.invariant in
+    let smaller = items_size-rest _ child_data c.in-Some.child _ _ left in
     (omega (arith, smaller, ap data_size (child_item c.in-Some.child)), tt)
 
 pub into_many_entries-into_value-requires : goal.into_many_entries-into_value-requires
 into_many_entries-into_value-requires t c =
     let start = c.into_iter-pair-iterator.ensures.into_iter_gives ∙ c.drain-pair-items.ensures in
-    let smaller = members_size-rest (map value_pair c.loop-pair.moved.items) child_pair _ _ _
-    (first_left child_pair _ c.in-Some.ensures.steps start c.loop-pair.invariant.made) in
+    let left = rw (c.in-Some.ensures.steps, start) at c.loop-pair.invariant.made in
+    let smaller = members_size-rest _ child_pair c.in-Some.pair _ _ left in
     (omega (arith, smaller, ap data_size (child_item c.in-Some.pair.value)), tt)
 
 pub into_entries-into_value-requires : goal.into_entries-into_value-requires
 into_entries-into_value-requires t c =
     let start = c.into_iter-pair-iterator.ensures.into_iter_gives.0 in
-    let smaller = members_size-rest (map value_pair c.loop-pair.moved.items) child_pair _ _ _
-    (first_left child_pair _ c.in-Some.ensures.steps.0 start c.loop-pair.invariant.made) in
+    let left = rw (c.in-Some.ensures.steps.0, start) at c.loop-pair.invariant.made in
+    let smaller = members_size-rest _ child_pair c.in-Some.pair _ _ left in
     (omega (arith, smaller, ap data_size (child_item c.in-Some.pair.value)), tt)
 
 pub into_table-into_entries-requires : goal.into_table-into_entries-requires
@@ -46,8 +38,7 @@ into_table-into_entries-requires t c =
 pub into_table-from_parts-requires : goal.into_table-from_parts-requires
 into_table-from_parts-requires t c =
     let same = keys_copied c.in_ok-moved.moved.items c.into_parts-pairs.result.0.items _ c.in_ok-moved.ensures refl in
-    let keys = keys_of-seen c.into_parts-pairs.result.0.items in
-    rw (sym keys ∙ same) at c.into_parts-pairs.ensures.index
+    rw (← keys_of-seen c.into_parts-pairs.result.0.items, same) at c.into_parts-pairs.ensures.index
 
 pub into_table-returns-in_err-moved-clause-memory : goal.into_table-returns-in_err-moved-clause-memory
 into_table-returns-in_err-moved-clause-memory t c =
@@ -61,29 +52,26 @@ into_table-returns-clause-table t c =
 pub into_tables-into_table-requires : goal.into_tables-into_table-requires
 into_tables-into_table-requires t c =
     let start = c.into_iter-table-iterator.ensures.into_iter_gives ∙ c.drain-table-items.ensures in
-    let smaller = items_size-rest (map view c.loop-table.elements.items) table_data _ _ _
-    (first_left table_data _ c.in-Some.ensures.steps start c.loop-table.invariant.made) in
-    (omega (arith, smaller), tt)
+    let left = rw (c.in-Some.ensures.steps, start) at c.loop-table.invariant.made in
+    (omega (arith, items_size-rest _ table_data c.in-Some.table _ _ left), tt)
 
 pub into_array_of_tables-into_tables-requires : goal.into_array_of_tables-into_tables-requires
 into_array_of_tables-into_tables-requires t c =
     let both = c.args.tables.value in
     let front = items_size-front (map table_data both.0.items) (table_data both.1) in
-    let earlier = ap (λ ts. items_size (items_of (map table_data ts.0.items))) c.into_inner-earlier.ensures in
-    (omega (arith, ap data_size (tables_data c.args.tables)), tt)
+    (rw c.into_inner-earlier.ensures (omega (arith, ap data_size (tables_data c.args.tables))), tt)
 
 pub into_array_of_tables-into_table-requires : goal.into_array_of_tables-into_table-requires
 into_array_of_tables-into_table-requires t c =
     let both = c.args.tables.value in
     let last = items_size-last (map table_data both.0.items) (table_data both.1) in
-    let latest = ap (λ ts. data_size (table_data ts.1)) c.into_inner-earlier.ensures in
-    (omega (arith, ap data_size (tables_data c.args.tables)), tt)
+    (rw c.into_inner-earlier.ensures (omega (arith, ap data_size (tables_data c.args.tables))), tt)
 
 pub into_array_of_tables-returns : goal.into_array_of_tables-returns
 into_array_of_tables-returns t c =
-    tables_seen c.in_ok-elements.elements c.push.new.self _ c.args.tables c.in_ok-push.ensures.items
-    (c.in_ok-elements.ensures ∙ ap (λ ts. map table_data ts.0.items) c.into_inner-earlier.ensures)
-    (table_seen _ ∙ c.in_ok-into_table.ensures.table ∙ ap (λ ts. table_data ts.1) c.into_inner-earlier.ensures)
+    tables_seen c.in_ok-elements.elements _ _ c.args.tables c.in_ok-push.ensures.items
+    (rw c.into_inner-earlier.ensures at c.in_ok-elements.ensures)
+    (table_seen _ ∙ rw c.into_inner-earlier.ensures at c.in_ok-into_table.ensures.table)
 
 pub into_value-returns-in-Section : goal.into_value-returns-in-Section
 into_value-returns-in-Section t c =

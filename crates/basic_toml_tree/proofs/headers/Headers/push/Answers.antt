@@ -1,22 +1,15 @@
-use Rattle.std.proofs.Common.{◌≡◌, ap, ◌∙◌, refl, arith, length}
-use Rattle.basic_toml_tree.specs.declared.headers.Head.{Head}
+use Rattle.std.proofs.Common.{◌≡◌, ap, ◌∙◌, arith, length}
 use Rattle.basic_toml_tree.proofs.HeadersKept.{one_more, rises_on}
 use Rattle.basic_toml_tree.proofs.headers.Headers.push.Goals as goal
 
 pub invariant_of-self-in-Ok : goal.invariant_of-self-in-Ok
 invariant_of-self-in-Ok c =
-    let head : Head = record { at = c.args.at; end = c.len.result } in
     let count : c.len.result ≡ length c.append.new.self.items =
     omega (arith, c.len.ensures, c.append.new.self.ok.0) in
     rw (c.in-Ok.ensures.items, ← count)
-    (rises_on 0 c.self.inside.heads.items c.self.inside.keys.items c.args.keys.now.items head c.self.invariant
-    (count ∙ ap length c.in_ok-append.ensures.items))
+    (rises_on 0 _ _ _ _ c.self.invariant (count ∙ ap length c.in_ok-append.ensures.items))
 
 pub returns-in-Ok-clause-ok : goal.returns-in-Ok-clause-ok
 returns-in-Ok-clause-ok c =
-    let head : Head = record { at = c.args.at; end = c.len.result } in
-    let count : c.len.result ≡ length c.append.new.self.items =
-    omega (arith, c.len.ensures, c.append.new.self.ok.0) in
-    rw (c.in-Ok.ensures.items, c.in_ok-append.ensures.items)
-    (one_more 0 c.self.inside.heads.items c.self.inside.keys.items c.args.keys.now.items head c.self.invariant
-    (count ∙ ap length c.in_ok-append.ensures.items) ∙ rw c.self.view_is refl)
+    rw (c.in-Ok.ensures.items, c.in_ok-append.ensures.items, ← c.self.view_is) (one_more 0 _ _ _ _ c.self.invariant
+    (omega (arith, c.len.ensures, c.append.new.self.ok.0, ap length c.in_ok-append.ensures.items)))
