@@ -1,9 +1,10 @@
 -- The keys that lead to a node, as the tree has them and as the section list foretells them.
 use Rattle.std.proofs.Common.{◌≡◌, inl, inr, ℕ, zero, suc, true, false, List, [], ◌∷◌, ◌++◌, length, map, take}
-use Rattle.std.proofs.Common.{get_or, Option, Some, None, refl, ap, sym, ◌∙◌, subst, arith, length-append, append_assoc}
+use Rattle.std.proofs.Common.{get_or, Option, Some, None, refl, ap, sym, ◌∙◌, arith, length-append, append_assoc}
 use Rattle.std.specs.Prelude.{◌==◌, slice_get, IfSome, IsSomeAnd}
 use Rattle.std.proofs.lemmas.Bool.{false≢true, and_parts, and_from, cases_Bool}
-use Rattle.std.proofs.lemmas.List.{take_all}
+use Rattle.std.proofs.lemmas.List.{append_cancel_left, take_all}
+use Rattle.std.proofs.lemmas.Option.{IfSome_then}
 use Rattle.std.proofs.lemmas.Slice.Eq.{bytes_eq-Decides}
 use Rattle.basic_toml_grammar.specs.Sections.{KeyTexts, texts, Section}
 use Rattle.basic_toml_grammar.specs.Steps.{Step, key, number, Path, begins, steps_of, keys_of}
@@ -23,12 +24,10 @@ use Rattle.basic_toml_tree.specs.declared.spot.Spot.TheVariants as spots
 use Rattle.basic_toml_tree.specs.declared.trail.Trail.{Trail}
 use Rattle.basic_toml_tree.specs.declared.trail.Trail.TheVariants.{Header, Row}
 use Rattle.basic_toml_grow.specs.Origins.{Origin, Origins, child_origins}
-use Rattle.basic_toml_grow.specs.Ways.{sections_origins}
 use Rattle.basic_toml_tree.proofs.Nodes.NodesCome.{child_bears}
-use Rattle.basic_toml_tree.proofs.Nodes.RowKeys.{Both, FoundIn, sections_found}
-use Rattle.basic_toml_tree.proofs.Nodes.OneSection.{stands_before, entry_bears, Entry}
-use Rattle.basic_toml_tree.proofs.Nodes.RowNodesTold.{no_clash, not_led, rows_free, rows_keyed, some_both, told_same}
-use Rattle.basic_toml_tree.proofs.Origins.RowsAreNodes.{Same, of_node, of_origin}
+use Rattle.basic_toml_tree.proofs.Nodes.RowKeys.{GivenBy, sections_give}
+use Rattle.basic_toml_tree.proofs.Nodes.OneSection.{entry_at}
+use Rattle.basic_toml_tree.proofs.Nodes.RowNodesTold.{no_clash, not_led, rows_free, rows_keyed, some_both}
 use Rattle.basic_toml_tree.specs.Headers.{keys_at}
 use Rattle.basic_toml_tree.specs.HeaderTables.{table_of}
 use Rattle.basic_toml_tree.specs.Origin.{header_of, spot_is_made, spot_section, item_section, holds_tables}
@@ -235,52 +234,44 @@ module _ (sections : List Section) (node : Node) (p : Path) (is : IsNodeAt secti
     abbrev SaysKeys : grammar.Node → Type 0
     SaysKeys found = trail_keys node.tree.now.headers node.count node.trail ≡ found.key_path
 
-    unmade : (m : Option grammar.Node) (x : Origin) → Same m (Some x) → x.made ≡ false
-    unmade None x same = absurd (cc)
-    unmade (Some m) x same = let both : of_node m ≡ of_origin x = cc in sym (ap (λ t. t.made) both)
-
-    told_row : (q : Path) (s : Step) (r : Path) → p ≡ q ++ s ∷ r → grammar.is_made (located sections) q ≡ true
-        → grammar.is_made (located sections) (q ++ s ∷ []) ≡ false → (m : Option grammar.Node) (o : Option Origin)
-        → Same m o → Both m o (FoundIn 0 (located sections) p)
-        → IfSome o (Entry q s 0 (located sections)) → IfSome m SaysKeys
-    told_row q s r path made apart None o same found entry = tt
-    told_row q s r path made apart (Some m) None same found entry = absurd (cc)
-    told_row q s r path made apart (Some m) (Some o) same found entry =
+    told_row : (m : grammar.Node) → GivenBy (located sections) p m → SaysKeys m
+    told_row m given =
         let ls = located sections in
         let tree = node.tree.now in
-        let k = entry.0 in
-        let x = entry.2 in
-        let step : s ≡ key k = entry.1 in
-        let at = located_at [] sections found.number found.located found.there in
-        let number : x.section ≡ found.number = omega (arith, found.section, entry.4) in
-        let header : header_at tree x.section ≡ texts found.located.section.header =
-        ap (header_at tree) number ∙ heads_at sections tree is.resolved found.number ∙ at.0 in
-        let here : tree_origins tree (q ++ key k ∷ []) ≡ Some x =
-        rw (← step, is.resolved.origins (q ++ s ∷ []) apart) entry.3 in
-        let own : x.made ≡ false =
-        unmade _ x (rw (entry.3) at (told_same sections is.resolved (q ++ s ∷ []) apart)) in
-        let rows = rw here at (is.stands.rows sections is.resolved q k r (path ∙ rw step refl) made) in
-        let before = stands_before ls q s (not_led ls (q ++ s ∷ []) apart) found.number found.located found.there r
-        (key found.row.first ∷ found.row.others) (sym path ∙ found.row.path) in
+        let row = given.3 in
+        let by = made_from ls [] p refl not in
+        let step = by.before ++ by.step ∷ [] in
+        let entry = entry_at ls (no_clash sections is.resolved).1 (rows_keyed sections is.resolved) by.before by.step
+        by.made (not_led ls step by.not) given.0 given.1 given.2 by.rest (rw (by.is) at row.told) in
+        let k = entry.key_is.0 in
+        let l = given.1 in
+        let at = located_at [] sections given.0 l given.2 in
+        let header : header_at tree given.0 ≡ texts l.section.header =
+        heads_at sections tree is.resolved given.0 ∙ at.0 in
+        let path : p ≡ by.before ++ key k ∷ by.rest =
+        by.is ∙ ap (λ s. by.before ++ s ∷ by.rest) entry.key_is.1 in
+        let here : tree_origins tree (by.before ++ key k ∷ []) ≡ Some entry.told.0 =
+        ap (λ s. tree_origins tree (by.before ++ s ∷ [])) (sym entry.key_is.1)
+        ∙ is.resolved.origins step by.not ∙ entry.told.1 in
+        let rows = rw here at (is.stands.rows sections is.resolved by.before k by.rest path by.made) in
+        let y = entry.before in
+        let same = append_cancel_left l.path (y.0 ++ key k ∷ by.rest) (key row.first ∷ row.others)
+        (sym (append_assoc l.path y.0 (key k ∷ by.rest)) ∙ ap (λ w. w ++ key k ∷ by.rest) (sym y.1) ∙ sym path
+        ∙ row.path) in
         rw (
-          row_keys tree x.section node.count (keys_of q) k node.trail (rows own),
+          row_keys tree given.0 node.count (keys_of by.before) k node.trail
+              (rw (entry.told.2) at (rows entry.told.3)),
           header,
           ← (at.1),
-          key_after q found.located.path before.0 r found.row.others k found.row.first before.1 (rw (← step) before.2),
+          key_after by.before l.path y.0 by.rest row.others k row.first y.1 same,
           at.1,
         )
-        (sym found.row.keys)
+        (sym row.keys)
 
     pub row_keys_told : IfSome (grammar.node_at sections p) (λ found. kept_keys node ≡ found.key_path)
     unfolding kept_keys
     row_keys_told =
         let ls = located sections in
         let last = grammar.last_at sections in
-        let by = made_from ls [] p refl not in
-        rw not (told_row by.before by.step by.rest by.is by.made by.not (grammar.node_of_sections ls last ls p)
-        (sections_origins 0 ls p) (told_same sections is.resolved p not)
-        (sections_found ls last 0 ls p (not_led ls p not) (rows_free sections is.resolved)
-        (rows_keyed sections is.resolved))
-        (subst (λ p. IfSome (sections_origins 0 ls p) (Entry by.before by.step 0 (located sections))) (sym by.is)
-        (entry_bears sections (no_clash sections is.resolved).1 is.resolved.within by.before by.step by.rest by.made
-        (not_led ls (by.before ++ by.step ∷ []) by.not))))
+        rw not (IfSome_then (grammar.node_of_sections ls last ls p) (sections_give ls last ls p (not_led ls p not)
+        (rows_free sections is.resolved) (rows_keyed sections is.resolved)) told_row)

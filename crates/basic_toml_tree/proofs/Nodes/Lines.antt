@@ -99,7 +99,7 @@ front_short [] e = absurd (false≢true e)
 front_short (s ∷ []) e = refl
 front_short (s ∷ t ∷ p) e = rw step_same (front_short (t ∷ p) e)
 
-goes_by : (p q : Path) → begins p q ≡ true → q ≡ p ++ drop (length p) q
+pub goes_by : (p q : Path) → begins p q ≡ true → q ≡ p ++ drop (length p) q
 goes_by [] q e = refl
 goes_by (s ∷ p) [] e = absurd (false≢true e)
 goes_by (s ∷ p) (t ∷ q) e =

@@ -1,7 +1,7 @@
 -- The offset that names a node in errors, by the section list: where the node begins, but for an array the outer
 -- offset.
 use Rattle.std.proofs.Common.{◌≡◌, ◌⊎◌, inl, inr, ℕ, Bool, true, false, List, [], ◌∷◌, Option, refl, ap}
-use Rattle.std.proofs.Common.{sym, ◌∙◌, rules, codes, length, drop, ◌++◌}
+use Rattle.std.proofs.Common.{sym, ◌∙◌, rules, codes, ◌++◌}
 use Rattle.std.specs.Prelude.{IfSome}
 use Rattle.std.specs.Option.{option_or}
 use Rattle.std.specs.Str.{bytes_eq}
@@ -9,8 +9,8 @@ use Rattle.basic_toml_grammar.specs.Sections.{KeyTexts, texts, Raw, Rows, no_row
 use Rattle.basic_toml_grammar.specs.Steps.{Path, begins, steps_of}
 use Rattle.basic_toml_grammar.specs.IndexedPath.{Located, located}
 use Rattle.basic_toml_grammar.specs.NamedClash.{first_key}
-use Rattle.basic_toml_grammar.specs.Nodes.{Node, front, value_node, dotted_node, node_in}
-use Rattle.basic_toml_grammar.specs.Nodes.{holder, node_of_rows, node_of_sections, node_at, is_made, last_at, raw_name}
+use Rattle.basic_toml_grammar.specs.Nodes.{Node, value_node}
+use Rattle.basic_toml_grammar.specs.Nodes.{node_of_rows, node_of_sections, node_at, is_made, last_at, raw_name}
 use Rattle.basic_toml_read.specs.declared.section.Raw as raws
 use Rattle.basic_toml_read.specs.declared.section.Raw.TheOpen.{Raw-F}
 use Rattle.basic_toml_read.specs.declared.section.Element.{Element}
@@ -50,12 +50,9 @@ rows_plain ls last l no_rows p = tt
 rows_plain ls last l (row ks at v rows) p =
     let path = l.path ++ steps_of (texts ks) in
     let key_path = texts l.section.header ++ first_key ks in
-    one_of (begins path p) (begins p path)
-    (node_in key_path (holder ls last (front path)) at v (drop (length path) p)) (node_of_rows ls last l rows p)
-    (dotted_node key_path (holder ls last (front p)) at) Plain
-    (λ _. in_value key_path Plain (value_plain key_path) (λ outer at. inr (refl, refl)) (holder ls last (front path)) at
-    v (drop (length path) p)) (λ _. inr (refl, refl))
-    (rows_plain ls last l rows p)
+    one_of (begins path p) (begins p path) _ _ Plain
+    (λ _. in_value key_path Plain (value_plain key_path) (λ outer at. inr (refl, refl)) _ at v _)
+    (λ _. inr (refl, refl)) (rows_plain ls last l rows p)
 
 sections_plain : (ls : List Located) (last : Option ℕ) (later : List Located) (p : Path)
     → IfSome (node_of_sections ls last later p) Plain

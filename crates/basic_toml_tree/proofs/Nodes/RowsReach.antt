@@ -1,181 +1,107 @@
--- Which keys rows lead over: what tells of a path tells of its beginnings, and a row that leads to it goes over them.
-use Rattle.std.proofs.Common.{◌≡◌, ◌⊎◌, inl, inr, ℕ, zero, suc, Bool, true, false, List, [], ◌∷◌, ◌++◌, Option}
-use Rattle.std.proofs.Common.{Some, None, refl, ap, sym, ◌∙◌, slice_get, append_assoc}
-use Rattle.std.specs.Prelude.{◌||◌, if◌then◌else◌, IfSome}
-use Rattle.std.specs.Option.{option_or}
-use Rattle.std.proofs.lemmas.Bool.{false≢true, and_parts, or_parts, cases_Bool}
-use Rattle.std.proofs.lemmas.Option.{IfSome_then}
-use Rattle.basic_toml_grammar.specs.Sections.{KeyTexts, texts, Raw, Elements, no_elements, element, Rows, no_rows}
-use Rattle.basic_toml_grammar.specs.Sections.{Key, row}
-use Rattle.basic_toml_grammar.specs.Steps.{Step, key, number, Path, step_eq, begins, steps_of}
+-- Which keys rows lead over: rows that tell something past a step go over it, and tell of it, too.
+use Rattle.std.proofs.Common.{◌≡◌, ◌⊎◌, inl, inr, ℕ, true, false, List, [], ◌∷◌, ◌++◌, Option}
+use Rattle.std.proofs.Common.{Some, None, refl, sym, ◌∙◌, arith}
+use Rattle.std.proofs.lemmas.Bool.{false≢true, false_from_ne_true, and_parts, or_parts, cases_Bool}
+use Rattle.basic_toml_grammar.specs.Sections.{KeyTexts, texts, Raw, Rows, no_rows, Key, row}
+use Rattle.basic_toml_grammar.specs.Steps.{Step, key, Path, step_eq, begins, steps_of}
 use Rattle.basic_toml_grammar.specs.IndexedPath.{Located}
-use Rattle.basic_toml_grammar.specs.SectionClash.{row_on_path, row_crossed, any_row_clashes}
+use Rattle.basic_toml_grammar.specs.SectionClash.{row_crossed, any_row_clashes}
 use Rattle.basic_toml_grammar.specs.Entering.{keyed_within}
-use Rattle.basic_toml_grammar.proofs.Clash.StepTestsDecide.{step_is}
-use Rattle.basic_toml_grow.specs.Origins.{Origin, Origins, entry, under, table_origin, along}
-use Rattle.basic_toml_grow.specs.Origins.{row_origins, value_origins, elements_origins, rows_origins}
-use Rattle.basic_toml_tree.proofs.Nodes.WhatIsThere.{all_so, if_some, if_there, or_some}
-use Rattle.basic_toml_tree.proofs.Origins.RowsAreNodes.{begins_front}
+use Rattle.basic_toml_grammar.proofs.Clash.ClashesAgree.{turn_eq}
+use Rattle.basic_toml_grow.specs.Origins.{Origin, Origins, entry, table_origin}
+use Rattle.basic_toml_grow.specs.Origins.{row_origins, value_origins, rows_origins}
+use Rattle.basic_toml_tree.proofs.Origins.RowsAreNodes.{begins_on, goes_on}
 
-abbrev pub Told : Option Origin → Type 0
-Told o = (x : Origin) × (o ≡ Some x)
+-- Rows of the section with this number tell something.
+abbrev pub Told : ℕ → Option Origin → Type 0
+Told n o = (x : Origin) × (o ≡ Some x) × (x.section ≡ n) × (x.made ≡ false)
 
-some_told : (o : Option Origin) (x : Origin) → IfSome o (λ y. Told (Some x))
-some_told o x = all_so o (Told (Some x)) (x, refl)
-
--- What tells of a path tells of its beginnings, too, from the first key on.
-if_front : (b : Bool) (o front : Option Origin) → IfSome o (λ x. Told front)
-    → IfSome (if b then o else None) (λ x. Told (if b then front else None))
-if_front true o front told = told
-if_front false o front told = tt
-
-or_front : (a b c d : Option Origin) → IfSome a (λ x. Told c) → IfSome b (λ x. Told d)
-    → IfSome (option_or a b) (λ x. Told (option_or c d))
-or_front a b (Some y) d first later = some_told (option_or a b) y
-or_front (Some x) b None d first later = let bad : None ≡ Some first.0 = first.1 in absurd (cc)
-or_front None b None d first later = later
-
-row_front : (ks : KeyTexts) (d : Origin) (f : Origins) → ((p r : Path) → IfSome (f (p ++ r)) (λ x. Told (f p)))
-    → (s : Step) (p r : Path)
-    → IfSome (row_origins ks d f (s ∷ p ++ r)) (λ x. Told (row_origins ks d f (s ∷ p)))
-row_front [] d f below s p r = below (s ∷ p) r
-row_front (k ∷ []) d f below s p r = if_front (step_eq s (key k)) (f (p ++ r)) (f p) (below p r)
-row_front (k ∷ l ∷ ks) d f below s [] r =
-    if_front (step_eq s (key k)) (entry d (row_origins (l ∷ ks) d f) r) (Some d)
-    (some_told (entry d (row_origins (l ∷ ks) d f) r) d)
-row_front (k ∷ l ∷ ks) d f below s (t ∷ p) r =
-    if_front (step_eq s (key k)) (row_origins (l ∷ ks) d f (t ∷ p ++ r)) (row_origins (l ∷ ks) d f (t ∷ p))
-    (row_front (l ∷ ks) d f below t p r)
-
-mutual
-  value_front : (n at : ℕ) (v : Raw) (p r : Path)
-      → IfSome (value_origins n at v (p ++ r)) (λ x. Told (value_origins n at v p))
-  value_front n at (Raw.array es) (number m ∷ p) r = elements_front n es m p r
-  value_front n at (Raw.inline rows) (s ∷ p) r = rows_front n rows s p r
-  value_front n at v [] r = some_told (value_origins n at v r) _
-  value_front n at v p r = tt
-
-  elements_front : (n : ℕ) (es : Elements) (m : ℕ) (p r : Path)
-      → IfSome (under (slice_get (elements_origins n es) m) (p ++ r))
-      (λ x. Told (under (slice_get (elements_origins n es) m) p))
-  elements_front n no_elements m p r = tt
-  elements_front n (element at v es) zero p r = value_front n at v p r
-  elements_front n (element at v es) (suc m) p r = elements_front n es m p r
-
-  rows_front : (n : ℕ) (rows : Rows) (s : Step) (p r : Path)
-      → IfSome (rows_origins n rows (s ∷ p ++ r)) (λ x. Told (rows_origins n rows (s ∷ p)))
-  rows_front n no_rows s p r = tt
-  rows_front n (row ks at v rows) s p r =
-      let brings = row_origins (texts ks) (table_origin false at n) (value_origins n at v) in
-      or_front (brings (s ∷ p ++ r)) (rows_origins n rows (s ∷ p ++ r)) (brings (s ∷ p)) (rows_origins n rows (s ∷ p))
-      (row_front (texts ks) (table_origin false at n) (value_origins n at v) (λ p r. value_front n at v p r) s p r)
-      (rows_front n rows s p r)
-
-pub rows_told : (n : ℕ) (rows : Rows) (y : Path) (s : Step) (r : Path)
-    → IfSome (rows_origins n rows (y ++ s ∷ r)) (λ x. Told (rows_origins n rows (y ++ s ∷ [])))
-rows_told n rows [] s r = rows_front n rows s [] r
-rows_told n rows (t ∷ y) s r = rw (append_assoc y (s ∷ []) r) at (rows_front n rows t (y ++ s ∷ []) r)
-
--- what is told of a path along a way
-abbrev pub On : Path → Origins → Path → Origin → Type 0
-On w f p o = (x : Path) × (p ≡ w ++ x) × (f x ≡ Some o)
-
-pub along_tells : (w : Path) (f : Origins) (p : Path) → IfSome (along w f p) (On w f p)
-along_tells [] f p = if_there (f p) (λ o is. (p, refl, is))
-along_tells (s ∷ w) f [] = tt
-along_tells (s ∷ w) f (t ∷ p) = elim (cases_Bool (step_eq t s)) [
-  | inl e ↦ rw e (IfSome_then (along w f p) (along_tells w f p)
-      (λ o at. (at.0, ap (λ t. t ∷ p) (step_is t s e) ∙ ap (λ p. s ∷ p) at.1, at.2)))
-  | inr e ↦ rw e tt
-]
-
--- The keys of a row pass by a step after others, or end before it.
-abbrev GoesOver : KeyTexts → Path → Step → Type 0
-GoesOver ks y s = ((more : Path) × (steps_of ks ≡ y ++ s ∷ more)) ⊎ ((rest : Path) × (y ≡ steps_of ks ++ rest))
+value_told : (n at : ℕ) (v : Raw) → Told n (value_origins n at v [])
+value_told n at (Raw.array es) = (_, refl, refl, refl)
+value_told n at v = (_, refl, refl, refl)
 
 entry_below : (d : Origin) (g : Origins) (y : Path) (s : Step) (r : Path) → entry d g (y ++ s ∷ r) ≡ g (y ++ s ∷ r)
 entry_below d g [] s r = refl
 entry_below d g (t ∷ y) s r = refl
 
-further : (k : List ℕ) (ks : KeyTexts) (t : Step) (y : Path) (s : Step) → t ≡ key k → GoesOver ks y s
-    → GoesOver (k ∷ ks) (t ∷ y) s
-further k ks t y s is (inl on) = inl (on.0, ap (λ p. key k ∷ p) on.1 ∙ ap (λ t. t ∷ y ++ s ∷ on.0) (sym is))
-further k ks t y s is (inr past) = inr (past.0, ap (λ t. t ∷ y) is ∙ ap (λ p. key k ∷ p) past.1)
+-- a row that does not end before a step: it goes over the step, and tells of it, or tells nothing from there on
+module _ (d : Origin) (f : Origins) where
+  row_none : (ks : KeyTexts) (y : Path) (s : Step) (r : Path) → begins (steps_of ks) y ≡ false
+      → begins (y ++ s ∷ []) (steps_of ks) ≡ false → row_origins ks d f (y ++ s ∷ r) ≡ None
+  row_none [] y s r not off = absurd (false≢true (sym not))
+  row_none (k ∷ []) [] s r not off = grind arith
+  row_none (k ∷ l ∷ ks) [] s r not off = grind arith
+  row_none (k ∷ []) (t ∷ y) s r not off = grind (arith, turn_eq t (key k))
+  row_none (k ∷ l ∷ ks) (t ∷ y) s r not off =
+      grind (
+        arith,
+        turn_eq t (key k),
+        entry_below d (row_origins (l ∷ ks) d f) y s r,
+        row_none (l ∷ ks) y s r,
+      )
 
-row_over : (k : List ℕ) (ks : KeyTexts) (d : Origin) (f : Origins) (y : Path) (s : Step) (r : Path)
-    → IfSome (row_origins (k ∷ ks) d f (y ++ s ∷ r)) (λ x. GoesOver (k ∷ ks) y s)
-row_over k [] d f [] s r =
-    if_some (step_eq s (key k)) (f r) (λ x. GoesOver (k ∷ []) [] s)
-    (λ e. all_so (f r) (GoesOver (k ∷ []) [] s) (inl ([], ap (λ t. t ∷ []) (sym (step_is s (key k) e)))))
-row_over k [] d f (t ∷ y) s r =
-    if_some (step_eq t (key k)) (f (y ++ s ∷ r)) (λ x. GoesOver (k ∷ []) (t ∷ y) s)
-    (λ e. all_so (f (y ++ s ∷ r)) (GoesOver (k ∷ []) (t ∷ y) s) (inr (y, ap (λ t. t ∷ y) (step_is t (key k) e))))
-row_over k (l ∷ ks) d f [] s r =
-    let more = entry d (row_origins (l ∷ ks) d f) r in
-    if_some (step_eq s (key k)) more (λ x. GoesOver (k ∷ l ∷ ks) [] s)
-    (λ e. all_so more (GoesOver (k ∷ l ∷ ks) [] s)
-    (inl (steps_of (l ∷ ks), ap (λ t. t ∷ steps_of (l ∷ ks)) (sym (step_is s (key k) e)))))
-row_over k (l ∷ ks) d f (t ∷ y) s r =
-    let more = row_origins (l ∷ ks) d f in
-    if_some (step_eq t (key k)) (entry d more (y ++ s ∷ r)) (λ x. GoesOver (k ∷ l ∷ ks) (t ∷ y) s)
-    (λ e. rw (entry_below d more y s r) (IfSome_then (more (y ++ s ∷ r)) (row_over l ks d f y s r)
-    (λ x over. further k (l ∷ ks) t y s (step_is t (key k) e) over)))
+  row_some : (n : ℕ) → Told n (Some d) → Told n (f []) → (ks : KeyTexts) (y : Path) (s : Step)
+      → begins (y ++ s ∷ []) (steps_of ks) ≡ true → Told n (row_origins ks d f (y ++ s ∷ []))
+  row_some n own value [] [] s on = absurd (false≢true on)
+  row_some n own value [] (t ∷ y) s on = absurd (false≢true on)
+  row_some n own value (k ∷ []) [] s on = rw ((and_parts (step_eq s (key k)) true on).0) value
+  row_some n own value (k ∷ l ∷ ks) [] s on = rw ((and_parts (step_eq s (key k)) true on).0) own
+  row_some n own value (k ∷ []) (t ∷ y) s on =
+      let both = and_parts (step_eq t (key k)) _ on in rw (both.0) (row_some n own value [] y s both.1)
+  row_some n own value (k ∷ l ∷ ks) (t ∷ y) s on =
+      let both = and_parts (step_eq t (key k)) _ on in
+      rw (both.0, entry_below d (row_origins (l ∷ ks) d f) y s []) (row_some n own value (l ∷ ks) y s both.1)
 
--- Some row of a section passes by a step; it crosses no header that none of the rows crosses.
+-- Some row of a section goes over a step; it crosses no header that none of the rows crosses.
 pub record Over (w : Path) (rows : Rows) (y : Path) (s : Step) : Type 0 where
   pub keys : KeyTexts
-  pub more : Path
-  pub is : steps_of keys ≡ y ++ s ∷ more
+  pub on : begins (y ++ s ∷ []) (steps_of keys) ≡ true
   pub crossed : (j : Located) → any_row_clashes w rows j ≡ false → row_crossed w (steps_of keys) j ≡ false
+  pub told : (n : ℕ) → Told n (rows_origins n rows (y ++ s ∷ []))
 
 -- No row ends before the step: a header goes on to it on which no row ends.
 abbrev pub GoneOn : Path → Rows → Path → Type 0
 GoneOn w rows y = (y ≡ []) ⊎ ((j : Located) × (begins (w ++ y) j.path ≡ true) × (any_row_clashes w rows j ≡ false))
 
-ends_nowhere : (w : Path) (k : Key) (ks : List Key) (at : ℕ) (v : Raw) (rows : Rows) (y : Path)
-    → GoneOn w (row (k ∷ ks) at v rows) y → (rest : Path) → y ≡ steps_of (texts (k ∷ ks)) ++ rest → ⊥
-ends_nowhere w k ks at v rows y (inl none) rest is =
-    let bad : [] ≡ key k.text ∷ steps_of (texts ks) ++ rest = sym none ∙ is in absurd (cc)
-ends_nowhere w k ks at v rows y (inr gone) rest is =
+not_ended : (w : Path) (k : Key) (ks : List Key) (at : ℕ) (v : Raw) (rows : Rows) (y : Path)
+    → GoneOn w (row (k ∷ ks) at v rows) y → begins (steps_of (texts (k ∷ ks))) y ≡ false
+not_ended w k ks at v rows y (inl none) = rw none refl
+not_ended w k ks at v rows y (inr gone) =
     let steps = steps_of (texts (k ∷ ks)) in
-    let on : begins (w ++ steps) gone.0.path ≡ true =
-    begins_front (w ++ steps) rest gone.0.path (rw (append_assoc w steps rest, ← is) gone.1) in
-    let apart = or_parts _ _ gone.2 in
-    false≢true (sym (or_parts _ _ apart.0).0 ∙ on)
+    let free = (or_parts _ _ (or_parts _ _ gone.2).0).0 in
+    false_from_ne_true _ (λ e. false≢true (sym free ∙ goes_on (w ++ steps) (w ++ y) gone.0.path
+    (begins_on w steps y ∙ e) gone.1))
 
-pub rows_over : (n : ℕ) (w : Path) (rows : Rows) (y : Path) (s : Step) (r : Path) → keyed_within rows ≡ true
-    → GoneOn w rows y → IfSome (rows_origins n rows (y ++ s ∷ r)) (λ x. Over w rows y s)
-rows_over n w no_rows y s r keyed gone = tt
-rows_over n w (row [] at v rows) y s r keyed gone = absurd (false≢true keyed)
-rows_over n w (row (k ∷ ks) at v rows) y s r keyed gone =
-    let d = table_origin false at n in
-    let f = value_origins n at v in
-    let p = y ++ s ∷ r in
-    or_some (row_origins (texts (k ∷ ks)) d f p) (rows_origins n rows p) (λ x. Over w (row (k ∷ ks) at v rows) y s)
-    (IfSome_then (row_origins (texts (k ∷ ks)) d f p) (row_over k.text (texts ks) d f y s r) (λ x over. here over))
-    (IfSome_then (rows_origins n rows p)
-    (rows_over n w rows y s r (and_parts _ _ keyed).1 (less gone))
-    (λ x over. later over))
+pub rows_over : (w : Path) (rows : Rows) (y : Path) (s : Step) → keyed_within rows ≡ true → GoneOn w rows y
+    → ((n : ℕ) (r : Path) → rows_origins n rows (y ++ s ∷ r) ≡ None) ⊎ Over w rows y s
+rows_over w no_rows y s keyed gone = inl (λ n r. refl)
+rows_over w (row [] at v rows) y s keyed gone = absurd (false≢true keyed)
+rows_over w (row (k ∷ ks) at v rows) y s keyed gone = elim (cases_Bool (begins (y ++ s ∷ []) (steps_of keys))) [
+  | inl on ↦ inr (record {
+    keys = keys;
+    on = on;
+    crossed = λ j none. (or_parts _ _ (or_parts _ _ none).0).1;
+    told = λ n.
+        let d = table_origin false at n in
+        let first = row_some d (value_origins n at v) n (d, refl, refl, refl) (value_told n at v) keys y s on in
+        rw (first.1) (first.0, refl, first.2, first.3);
+  })
+  | inr off ↦
+      let none = λ (n : ℕ) (r : Path). row_none (table_origin false at n) (value_origins n at v) keys y s r
+      (not_ended w k ks at v rows y gone) off in
+      elim (rows_over w rows y s (and_parts _ _ keyed).1 later) [
+        | inl more ↦ inl (λ n r. rw (none n r) (more n r))
+        | inr over ↦ inr (record {
+          keys = over.keys;
+          on = over.on;
+          crossed = λ j none. over.crossed j (or_parts _ _ none).1;
+          told = λ n. rw (none n []) (over.told n);
+        })
+      ]
+]
   where
-    parts : (j : Located) → any_row_clashes w (row (k ∷ ks) at v rows) j ≡ false
-        → (row_crossed w (steps_of (texts (k ∷ ks))) j ≡ false) × (any_row_clashes w rows j ≡ false)
-    parts j none =
-        let steps = steps_of (texts (k ∷ ks)) in
-        let apart = or_parts (row_on_path w steps j || row_crossed w steps j) (any_row_clashes w rows j) none in
-        ((or_parts (row_on_path w steps j) (row_crossed w steps j) apart.0).1, apart.1)
+    keys : KeyTexts
+    keys = texts (k ∷ ks)
 
-    here : GoesOver (texts (k ∷ ks)) y s → Over w (row (k ∷ ks) at v rows) y s
-    here (inl on) = record { keys = texts (k ∷ ks); more = on.0; is = on.1; crossed = λ j none. (parts j none).0 }
-    here (inr past) = absurd (ends_nowhere w k ks at v rows y gone past.0 past.1)
-
-    later : Over w rows y s → Over w (row (k ∷ ks) at v rows) y s
-    later over = record {
-      keys = over.keys;
-      more = over.more;
-      is = over.is;
-      crossed = λ j none. over.crossed j (parts j none).1;
-    }
-
-    less : GoneOn w (row (k ∷ ks) at v rows) y → GoneOn w rows y
-    less (inl none) = inl none
-    less (inr on) = inr (on.0, on.1, (parts on.0 on.2).1)
+    later : GoneOn w rows y
+    later = elim gone [ inl none ↦ inl none | inr on ↦ inr (on.0, on.1, (or_parts _ _ on.2).1) ]

@@ -1,6 +1,6 @@
 -- What holds of what is there, if anything is.
-use Rattle.std.proofs.Common.{◌≡◌, ◌⊎◌, inl, inr, Bool, true, false, Option, Some, None, refl}
-use Rattle.std.specs.Prelude.{if◌then◌else◌, IfSome}
+use Rattle.std.proofs.Common.{◌≡◌, ◌⊎◌, inl, inr, Option, Some, None, refl}
+use Rattle.std.specs.Prelude.{IfSome}
 use Rattle.std.specs.Option.{option_or}
 
 module _ {A : Type 0} where
@@ -18,11 +18,7 @@ module _ {A : Type 0} where
   pub all_so : (o : Option A) (T : Type 0) → T → IfSome o (λ x. T)
   all_so o T so = if_there o (λ x is. so)
 
-  -- of what a test lets through, and of the first of two
-  pub if_some : (b : Bool) (o : Option A) (P : A → Type 0) → (b ≡ true → IfSome o P) → IfSome (if b then o else None) P
-  if_some true o P some = some refl
-  if_some false o P some = tt
-
+  -- of the first of two
   pub or_some : (m n : Option A) (P : A → Type 0) → IfSome m P → IfSome n P → IfSome (option_or m n) P
   or_some None n P first later = later
   or_some (Some x) n P first later = first
