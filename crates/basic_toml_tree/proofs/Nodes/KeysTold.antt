@@ -9,7 +9,6 @@ use Rattle.std.proofs.lemmas.Slice.Eq.{bytes_eq-Decides}
 use Rattle.basic_toml_grammar.specs.Sections.{KeyTexts, texts, Section}
 use Rattle.basic_toml_grammar.specs.Steps.{Step, key, number, Path, begins, steps_of, keys_of}
 use Rattle.basic_toml_grammar.specs.IndexedPath.{Located, located_after, located_from, located}
-use Rattle.basic_toml_grammar.specs.Trie.{standing}
 use Rattle.basic_toml_grammar.specs.Nodes as grammar
 use Rattle.basic_toml_grammar.proofs.Clash.PathsAgree.{append_none, count_in, keys-append, keys_cut, cuts_are}
 use Rattle.basic_toml_grammar.proofs.Clash.PathsAgree.{counts_are}
@@ -34,10 +33,9 @@ use Rattle.basic_toml_tree.specs.Origin.{header_of, spot_is_made, spot_section, 
 use Rattle.basic_toml_tree.specs.Origin.{keys_of as kept_keys, trail_keys}
 use Rattle.basic_toml_origin.specs.Anchor.{LeadsTo}
 use Rattle.basic_toml_tree.specs.Resolve.{IsResolved, ComesFromHeaders, head}
-use Rattle.basic_toml_tree.specs.Stands.{trie_at, tree_trie, is_root, StandsAt, IsEntry, IsNodeAt, tree_origins}
+use Rattle.basic_toml_tree.specs.Stands.{tree_trie, is_root, StandsAt, IsEntry, IsNodeAt, tree_origins}
 use Rattle.basic_toml_tree.specs.Keys.{header_at, Leads, KeepsHeader, CountsKeys, KeysLead, CountsOn, KeepsRow}
 use Rattle.basic_toml_tree.specs.Keys.{RowsLead}
-use Rattle.basic_toml_tree.specs.Outer.{stands_made}
 use Rattle.basic_toml_tree.proofs.Nodes.KeysLead.{KeepsKeys, made_before, rows_on}
 use Rattle.basic_toml_tree.specs.Nodes.{node_data}
 use Rattle.basic_toml_tree.proofs.Nodes.FewKeys.{few_keys}
@@ -68,22 +66,20 @@ first_are (k ∷ keys) (l ∷ header) e =
     let both = and_parts _ _ e in
     rw ((bytes_eq-Decides k l).0 both.0) (ap (λ keys. l ∷ keys) (first_are keys header both.1))
 
--- a header of the list that leads to what headers made
-abbrev header_in : List Section → ℕ → KeyTexts
-header_in ss n = header_of (keys_at (map head ss) n)
-
--- the headers that the tree keeps are those of the list
-heads_at : (sections : List Section) (tree : Tree) → IsResolved sections tree → (n : ℕ)
-    → header_at tree n ≡ header_in sections n
-heads_at sections tree resolved n = ap (λ headers. header_of (keys_at headers n)) resolved.heads
-
 -- the sections of the list where they stand
 located_at : (before ss : List Section) (n : ℕ) (l : Located) → slice_get (located_from before ss) n ≡ Some l
-    → (header_in ss n ≡ texts l.section.header) × (keys_of l.path ≡ texts l.section.header)
+    → (header_of (keys_at (map head ss) n) ≡ keys_of l.path) × (keys_of l.path ≡ texts l.section.header)
 located_at before [] n l there = absurd (cc)
 located_at before (s ∷ ss) zero l there =
-    let is : located_after before s ≡ l = cc in (rw (← is) refl, rw (← is) (located_keys s before))
+    let is : located_after before s ≡ l = cc in
+    rw (← is) (sym (located_keys s before), located_keys s before)
 located_at before (s ∷ ss) (suc n) l there = located_at (s ∷ before) ss n l there
+
+-- the headers that the tree keeps are those of the list
+header_is : (sections : List Section) (tree : Tree) → IsResolved sections tree → (n : ℕ) (l : Located)
+    → slice_get (located sections) n ≡ Some l
+    → (header_at tree n ≡ keys_of l.path) × (keys_of l.path ≡ texts l.section.header)
+header_is sections tree resolved n l there = rw (resolved.heads) (located_at [] sections n l there)
 
 -- a section whose header leads to a path begins with its keys
 header_leads : (sections : List Section) (tree : Tree) → IsResolved sections tree → (n : ℕ) (p : Path)
@@ -93,14 +89,19 @@ header_leads sections tree resolved n p leads = go (slice_get (located sections)
     go : (o : Option Located) → slice_get (located sections) n ≡ o → IsSomeAnd o (λ l. begins p l.path ≡ true)
         → Leads tree (keys_of p) n
     go None is leads = absurd leads
-    go (Some l) is leads =
-        let at = located_at [] sections n l is in
-        rw (heads_at sections tree resolved n, at.0, ← (at.1)) (begins_keys p l.path leads)
+    go (Some l) is leads = rw ((header_is sections tree resolved n l is).0) (begins_keys p l.path leads)
 
-made_spot : (node : Node) (tree : Tree) (q : Path) → stands_made (standing (trie_at q (tree_trie tree))) ≡ true
-    → Further tree q node → spot_is_made 1 node.spot ≡ true
-made_spot node tree q made (inl none) = absurd (false≢true (rw none at made))
-made_spot node tree q made (inr there) = (spot_made 1 node.spot there.1 (rw (there.0) made)).made
+-- a node one step on from a table, where headers made something
+pub made_below : (sections : List Section) (tree : Tree) → IsResolved sections tree → (p : Path) (k : List ℕ)
+    (node : Node) → Further tree (p ++ key k ∷ []) node
+    → grammar.is_made (located sections) (p ++ key k ∷ []) ≡ true → spot_is_made 1 node.spot ≡ true
+made_below sections tree resolved p k node there made =
+    let stands = sym (made_in_trie sections (tree_trie tree) resolved.stands (p ++ key k ∷ []) (no_root p (key k)))
+    ∙ made in
+    elim there [
+      | inl none ↦ absurd (false≢true (rw none at stands))
+      | inr is ↦ (spot_made 1 node.spot is.1 (rw (is.0) stands)).made
+    ]
 
 -- the keys that a node keeps
 kept_first : (from : Node) (tree : Tree) (p : Path) → from.tree.now ≡ tree → from.count ≡ length (keys_of p)
@@ -154,11 +155,9 @@ module _ {from node : Node} {k : List ℕ} {c : Child} (is : IsEntry from k c no
   header_keeps there sections resolved made =
       let path = p ++ key k ∷ [] in
       let before = stands.keys sections resolved (made_before (located sections) p (key k) made) in
-      let below = no_root p (key k) in
-      let spot = made_spot node tree path
-      (sym (made_in_trie sections (tree_trie tree) resolved.stands path below) ∙ made) there in
-      let section = has_section node.spot spot in
-      let has = rw here at (marked_at (located sections) (tree_origins tree) resolved.marks path below made) in
+      let section = has_section node.spot (made_below sections tree resolved p k node there made) in
+      let has = rw here at (marked_at (located sections) (tree_origins tree) resolved.marks path (no_root p (key k))
+      made) in
       record {
         section = section.0;
         trail = rw (section.1) at is.keys before.section before.trail;
@@ -189,19 +188,12 @@ made_keys sections p node is made =
     rw (kept.trail) (kept_first node node.tree.now p refl (is.stands.count sections is.resolved) kept)
 
 -- the key after those of a path that begins another
-get_past : (before keys : KeyTexts) (k : List ℕ) → get_or (before ++ keys) (length before) k ≡ get_or keys 0 k
-get_past [] keys k = refl
-get_past (l ∷ before) keys k = get_past before keys k
-
-first_after : (y r others : Path) (k l : List ℕ) → y ++ key k ∷ r ≡ key l ∷ others → get_or (keys_of y) 0 k ≡ l
-first_after [] r others k l same = cc
-first_after (s ∷ y) r others k l same =
-    let is : s ≡ key l = cc in rw is refl
-
-key_after : (q w y r others : Path) (k l : List ℕ) → q ≡ w ++ y → y ++ key k ∷ r ≡ key l ∷ others
-    → get_or (keys_of q) (length (keys_of w)) k ≡ l
-key_after q w y r others k l at same =
-    rw (at, keys-append w y, get_past (keys_of w) (keys_of y) k) (first_after y r others k l same)
+key_after : (w y r others : Path) (k l : List ℕ) → y ++ key k ∷ r ≡ key l ∷ others
+    → get_or (keys_of (w ++ y)) (length (keys_of w)) k ≡ l
+key_after [] [] r others k l same = cc
+key_after [] (s ∷ y) r others k l same = let is : s ≡ key l = cc in rw is refl
+key_after (key h ∷ w) y r others k l same = key_after w y r others k l same
+key_after (number n ∷ w) y r others k l same = key_after w y r others k l same
 
 row_keys : (tree : Tree) (n count : ℕ) (keys : KeyTexts) (k : List ℕ) (trail : Trail) → KeepsRow tree n keys k trail
     → trail_keys tree.headers count trail
@@ -245,9 +237,7 @@ module _ (sections : List Section) (node : Node) (p : Path) (is : IsNodeAt secti
         by.made (not_led ls step by.not) given.0 given.1 given.2 by.rest (rw (by.is) at row.told) in
         let k = entry.key_is.0 in
         let l = given.1 in
-        let at = located_at [] sections given.0 l given.2 in
-        let header : header_at tree given.0 ≡ texts l.section.header =
-        heads_at sections tree is.resolved given.0 ∙ at.0 in
+        let at = header_is sections tree is.resolved given.0 l given.2 in
         let path : p ≡ by.before ++ key k ∷ by.rest =
         by.is ∙ ap (λ s. by.before ++ s ∷ by.rest) entry.key_is.1 in
         let here : tree_origins tree (by.before ++ key k ∷ []) ≡ Some entry.told.0 =
@@ -261,9 +251,9 @@ module _ (sections : List Section) (node : Node) (p : Path) (is : IsNodeAt secti
         rw (
           row_keys tree given.0 node.count (keys_of by.before) k node.trail
               (rw (entry.told.2) at (rows entry.told.3)),
-          header,
-          ← (at.1),
-          key_after by.before l.path y.0 by.rest row.others k row.first y.1 same,
+          at.0,
+          ap (λ q. get_or (keys_of q) (length (keys_of l.path)) k) y.1,
+          key_after l.path y.0 by.rest row.others k row.first same,
           at.1,
         )
         (sym row.keys)

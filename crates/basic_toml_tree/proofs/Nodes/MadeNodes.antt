@@ -25,7 +25,7 @@ use Rattle.basic_toml_tree.specs.Headers.{last_of}
 use Rattle.basic_toml_tree.specs.HeaderTables.{table_of}
 use Rattle.basic_toml_tree.specs.Origin.{spot_is_made, is_made, spot_name, last_at, spot_is_borrowed}
 use Rattle.basic_toml_tree.specs.FirstStop.{Stands, only_root}
-use Rattle.basic_toml_tree.specs.Resolve.{head}
+use Rattle.basic_toml_tree.specs.Resolve.{IsResolved, head}
 use Rattle.basic_toml_tree.specs.Stands.{trie_at, tree_trie, spot_trie, wraps_table, is_wrapper, is_root, IsNodeAt}
 use Rattle.basic_toml_tree.specs.Stands.{StandsAt}
 use Rattle.basic_toml_tree.specs.Outer.{stands_made}
@@ -134,6 +134,13 @@ module _ (tree : Tree) (node : Node) (p : Path) (stands : StandsAt tree p node) 
   ]
 
 -- a node that headers made
+pub made_at : (sections : List Section) (tree : Tree) (node : Node) (p : Path) → IsResolved sections tree
+    → StandsAt tree p node → grammar.is_made (located sections) p ≡ true
+    → IsMade node.count node.spot × (spot_trie node.spot ≡ trie_at p (tree_trie tree))
+made_at sections tree node [] resolved stands made = root_at tree node [] stands refl
+made_at sections tree node (s ∷ p) resolved stands made =
+    table_at tree node (s ∷ p) stands (sym (made_in_trie sections (tree_trie tree) resolved.stands (s ∷ p) refl) ∙ made)
+
 module _ (sections : List Section) (node : Node) where
   abbrev pub told : Path → Type 0
   told p = IsMade node.count node.spot
@@ -141,20 +148,9 @@ module _ (sections : List Section) (node : Node) where
 
   pub is_told : (p : Path) → IsNodeAt sections p node → grammar.is_made (located sections) p ≡ true → told p
   is_told p is made =
-      let there = at p is.stands made in (
-        there.0,
-        rw (there.1) (sym (array_in_trie sections whole is.resolved.stands p)),
-      )
-    where
-      whole : Trie
-      whole = tree_trie node.tree.now
-
-      at : (p : Path) → StandsAt node.tree.now p node → grammar.is_made (located sections) p ≡ true
-          → IsMade node.count node.spot × (spot_trie node.spot ≡ trie_at p whole)
-      at [] stands made = root_at node.tree.now node [] stands refl
-      at (s ∷ p) stands made =
-          table_at node.tree.now node (s ∷ p) stands
-          (sym (made_in_trie sections whole is.resolved.stands (s ∷ p) refl) ∙ made)
+      let tree = node.tree.now in
+      let there = made_at sections tree node p is.resolved is.stands made in
+      (there.0, rw (there.1) (sym (array_in_trie sections (tree_trie tree) is.resolved.stands p)))
 
 last_in : (sections : List Section) → last_of (map head sections) ≡ grammar.last_at sections
 last_in [] = refl

@@ -1,55 +1,48 @@
 -- The nodes of the rows of an inline table with plain values.
-use Rattle.std.proofs.Common.{◌≡◌, ◌<◌, ◌≤◌, ◌+◌, inl, inr, ℕ, zero, suc, Bool, true, false, List, [], ◌∷◌, ◌++◌}
+use Rattle.std.proofs.Common.{◌≡◌, ◌<◌, ◌≤◌, ◌+◌, inl, ℕ, true, false, List, [], ◌∷◌, ◌++◌}
 use Rattle.std.proofs.Common.{Some, None, map, length, take, drop, get_or, refl, ap, sym, ◌∙◌}
 use Rattle.std.proofs.Common.{arith, rules, IsTrue, Vec, Global}
-use Rattle.std.specs.Prelude.{if◌then◌else◌, slice_get}
-use Rattle.std.specs.Option.{option_or}
+use Rattle.std.specs.Prelude.{slice_get}
 use Rattle.std.specs.Borrow.{Bor}
 use Rattle.std.specs.Str.{bytes_eq}
-use Rattle.std.proofs.lemmas.Bool.{false≢true, and_parts, or_parts, false_from_ne_true, not-true}
+use Rattle.std.proofs.lemmas.Bool.{false≢true}
 use Rattle.std.proofs.lemmas.List.{take_more, map-append, length-map, drop_all}
-use Rattle.std.proofs.lemmas.Option.{get_or_from_slice_get, slice_get_read, slice_get_within}
 use Rattle.std.specs.Iterator.{MakesProgress, item_count}
 use Rattle.std.specs.declared.iter.Iterator.{can_next-default}
 use Rattle.basic_toml_value.specs.Data.{Data, members_of}
 use Rattle.basic_toml_index.specs.Keys.{is_among, are_distinct}
-use Rattle.basic_toml_index.proofs.DistinctKeys.{bytes_eq-same, bytes_eq_other, first_differs, is_among-push}
-use Rattle.basic_toml_grammar.specs.IndexedPath.{located}
+use Rattle.basic_toml_index.proofs.DistinctKeys.{bytes_eq_other, is_among-push}
 use Rattle.basic_toml_grammar.specs.Mentions.{finished}
-use Rattle.basic_toml_grammar.specs.Nodes as grammar
-use Rattle.basic_toml_grammar.specs.Sections.{Section}
-use Rattle.basic_toml_value.specs.Pairs.{keys_of as pair_keys}
+use Rattle.basic_toml_value.specs.Pairs.{keys_of as pair_keys, value_at}
 use Rattle.basic_toml_grammar.specs.Steps.{key, Path}
-use Rattle.basic_toml_grammar.specs.Trie.{nothing, standing, below}
+use Rattle.basic_toml_grammar.specs.Trie.{nothing, below}
 use Rattle.basic_toml_read.specs.SectionView.{raw_of, rows_seen}
 use Rattle.basic_toml_read.specs.declared.section.Raw as raws
 use Rattle.basic_toml_read.specs.declared.section.Raw.TheOpen.{Raw-F}
 use Rattle.basic_toml_read.specs.declared.section.Element.{Element}
 use Rattle.basic_toml_read.specs.declared.section.Row.{Row, out-Row}
 use Rattle.basic_toml_read.specs.declared.section.Rows as code_rows
-use Rattle.basic_toml_read.proofs.NextRow.{lone_row, lined_is}
-use Rattle.basic_toml_plain.specs.Plain.{key_of, is_plain, are_simple, are_few_simple, plain_data, plain_table}
+use Rattle.basic_toml_plain.specs.Plain.{key_of, is_plain, are_few_simple, plain_data, plain_table}
 use Rattle.basic_toml_plain.specs.Plain.{rows_data}
 use Rattle.basic_toml_plain.specs.Tries.{leaf}
 use Rattle.basic_toml_plain.specs.Values.{row_pair}
-use Rattle.basic_toml_plain.proofs.SimpleKeys.{keys_differ}
 use Rattle.basic_toml_plain.proofs.RowsData.{few_data, row_keys}
-use Rattle.basic_toml_plain.proofs.PlainLeft.{row_at}
 use Rattle.basic_toml_grow.specs.Origins.{value_origins, rows_origins, entry}
 use Rattle.basic_toml_grow.specs.declared.item.Item.{Item, out-Item, the_lemmas}
 use Rattle.basic_toml_grow.specs.declared.item.Item.TheOpen.{Item-F}
 use Rattle.basic_toml_grow.specs.declared.item.Child.{Child}
 use Rattle.basic_toml_grow.specs.declared.item.Table.{Table}
 use Rattle.basic_toml_grow.proofs.ItemsStand.{shape}
-use Rattle.basic_toml_grow.proofs.Origins.OriginsSeen.{or_none}
-use Rattle.basic_toml_tree.specs.Keys.{CountsOn}
-use Rattle.basic_toml_tree.specs.Nodes.{node_data, spot_data, data_among, data_at, entries_in, entries_left}
+use Rattle.basic_toml_grow.proofs.Origins.OriginsSeen.{seen_at_key}
+use Rattle.basic_toml_grow.proofs.SectionTables.{entries_are, row_child_origins, section_within}
+use Rattle.basic_toml_grow.specs.Simple.{child_of, entries_of, section_table}
+use Rattle.basic_toml_tree.proofs.ItemData.{data_at_absent, data_at_found}
+use Rattle.basic_toml_tree.proofs.SectionData.{section_table_data}
+use Rattle.basic_toml_tree.specs.Nodes.{node_data, spot_data, data_at, entries_in, entries_left}
 use Rattle.basic_toml_tree.specs.Nodes.{key_and_data}
 use Rattle.basic_toml_tree.specs.Origin.{spot_is_made, holds_tables}
-use Rattle.basic_toml_tree.specs.Outer.{stands_made}
-use Rattle.basic_toml_tree.specs.Resolve.{IsResolved}
 use Rattle.basic_toml_tree.specs.Stands.{AtKey, IsRowAt, ComesFrom, HoldsRows, ItemRows, RawRows, IsPlainRow, StandsAt}
-use Rattle.basic_toml_tree.specs.Stands.{StandsOn, spot_trie, spot_origins, node_origins, tree_trie, trie_at}
+use Rattle.basic_toml_tree.specs.Stands.{StandsOn, spot_trie, spot_origins, node_origins}
 use Rattle.basic_toml_tree.specs.Stands.{is_wrapper, wraps_table, GivesEntry}
 use Rattle.basic_toml_tree.specs.declared.entries.Entries.{Entries}
 use Rattle.basic_toml_tree.specs.declared.node.Node.{Node}
@@ -58,14 +51,15 @@ use Rattle.basic_toml_tree.specs.declared.spot.Spot.{Spot}
 use Rattle.basic_toml_tree.specs.declared.spot.Spot.TheVariants as spots
 use Rattle.basic_toml_tree.specs.declared.tree.Tree.{Tree}
 use Rattle.basic_toml_tree.proofs.Nodes.KeysLead.{KeepsKeys, rows_on}
-use Rattle.basic_toml_tree.proofs.Nodes.KeysTold.{count_keeps}
+use Rattle.basic_toml_tree.proofs.Nodes.KeysTold.{count_keeps, made_below}
 use Rattle.basic_toml_tree.proofs.Nodes.Lines.{around_key}
-use Rattle.basic_toml_tree.proofs.Nodes.MadeNodes.{made_in_trie, root_at, table_at}
+use Rattle.basic_toml_tree.proofs.Nodes.MadeNodes.{made_at}
 use Rattle.basic_toml_tree.proofs.Nodes.NodesCome.{comes_alike}
 use Rattle.basic_toml_tree.proofs.Nodes.NodesInOrder.{drop_next, paired-members, read_mapped, progress}
-use Rattle.basic_toml_tree.proofs.Nodes.NodesStand.{GivenAt, at_more, no_root, stands_on}
+use Rattle.basic_toml_tree.proofs.Nodes.NodesStand.{GivenAt, further, stands_on}
 use Rattle.basic_toml_tree.proofs.Nodes.OuterStands.{keeps_below}
 use Rattle.basic_toml_tree.proofs.Nodes.PlainNodes.{value_comes}
+use Rattle.basic_toml_tree.proofs.Nodes.SectionNodes.{plain_read, rows_differ, section_at, section_row_data}
 
 -- none of the rows up to a position has a key
 pub none_passed : (rs : List Row) (n : ℕ) (r : Row) (k : List ℕ) → n < length rs → r ≡ get_or rs n r
@@ -81,64 +75,21 @@ none_passed rs n r k within read before other =
       bytes_eq_other k (key_of r) other,
     ) refl
 
--- the first of rows whose keys differ, and the others
-pub first_apart : (r : Row) (rs : List Row) → are_distinct (map key_of (r ∷ rs)) ≡ true
-    → (is_among (map key_of rs) (key_of r) ≡ false) × (are_distinct (map key_of rs) ≡ true)
-first_apart r rs differ =
-    let both = and_parts _ _ differ in
-    (not-true (is_among (map key_of rs) (key_of r)) both.0, both.1)
-
--- a later one has another key
-pub later_key : (x : Row) (rs : List Row) (n : ℕ) (r : Row) → are_distinct (map key_of (x ∷ rs)) ≡ true
-    → slice_get rs n ≡ Some r → bytes_eq (key_of r) (key_of x) ≡ false
-later_key x rs n r differ read =
-    first_differs (key_of x) (map key_of rs) n (key_of r) differ (read_mapped key_of rs n r read)
-
--- what rows tell of a key that none of them has
-no_data : (rs : List Row) (k : List ℕ) → is_among (map key_of rs) k ≡ false
-    → data_among (members_of (map row_pair rs)) k ≡ None
-no_data [] k apart = refl
-no_data (r ∷ rs) k apart =
-    let both = or_parts (bytes_eq k (key_of r)) (is_among (map key_of rs) k) apart in rw both.0 (no_data rs k both.1)
-
--- the origins of a row beside those of the others
-beside_origins : (s : ℕ) (r : Row) (rs : List Row) (k : List ℕ) (q : Path) (b : Bool) → bytes_eq k (key_of r) ≡ b
-    → rows_origins s (rows_seen [] (r ∷ rs)) (key k ∷ q)
-    ≡ option_or (if b then value_origins s (out-Row r).start (raw_of (out-Row r).value) q else None)
-    (rows_origins s (rows_seen [] rs) (key k ∷ q))
-beside_origins s r rs k q b same =
-    ap (λ rows. rows_origins s rows (key k ∷ q)) (lone_row r rs) ∙ rw (lined_is r, same) refl
-
-no_more_origins : (s : ℕ) (rs : List Row) (k : List ℕ) (q : Path) → is_among (map key_of rs) k ≡ false
-    → rows_origins s (rows_seen [] rs) (key k ∷ q) ≡ None
-no_more_origins s [] k q apart = refl
-no_more_origins s (r ∷ rs) k q apart =
-    let both = or_parts _ _ apart in
-    beside_origins s r rs k q false both.0 ∙ no_more_origins s rs k q both.1
-
--- and of the key that one of them has
-row_data : (rs : List Row) (n : ℕ) (r : Row) → are_distinct (map key_of rs) ≡ true → slice_get rs n ≡ Some r
-    → data_among (members_of (map row_pair rs)) (key_of r) ≡ Some (plain_data (out-Row r).value)
-row_data [] n r differ read = absurd (cc)
-row_data (x ∷ rs) zero r differ read = let same : x ≡ r = cc in rw (← same, bytes_eq-same (key_of x)) refl
-row_data (x ∷ rs) (suc n) r differ read =
-    rw (later_key x rs n r differ read) (row_data rs n r (first_apart x rs differ).1 read)
-
-own_origins : (s : ℕ) (rs : List Row) (n : ℕ) (r : Row) (q : Path) → are_distinct (map key_of rs) ≡ true
+-- the origins of a row are those of its value
+own_origins : (s : ℕ) (rs : List Row) (n : ℕ) (r : Row) (q : Path) → are_few_simple 0 rs ≡ true
     → slice_get rs n ≡ Some r
     → rows_origins s (rows_seen [] rs) (key (key_of r) ∷ q)
     ≡ value_origins s (out-Row r).start (raw_of (out-Row r).value) q
-own_origins s [] n r q differ read = absurd (cc)
-own_origins s (x ∷ rs) zero r q differ read =
-    let same : x ≡ r = cc in
-    rw (
-      ← same,
-      beside_origins s x rs (key_of x) q true (bytes_eq-same (key_of x)),
-      no_more_origins s rs (key_of x) q (first_apart x rs differ).0,
-    ) (or_none _)
-own_origins s (x ∷ rs) (suc n) r q differ read =
-    beside_origins s x rs (key_of r) q false (later_key x rs n r differ read)
-    ∙ own_origins s rs n r q (first_apart x rs differ).1 read
+own_origins s rs n r q simple read =
+    ap (λ w. w.below (key (key_of r) ∷ q)) (sym (section_within s rs simple))
+    ∙ seen_at_key (section_table s rs) (key_of r) q
+    ∙ rw (section_at rs simple s n r read, row_child_origins s r (plain_read rs simple n r read)) refl
+
+-- a key that no row has
+no_entry : (s : ℕ) (rs : List Row) (k : List ℕ) → is_among (map key_of rs) k ≡ false
+    → value_at (entries_of s rs) k ≡ None
+no_entry s [] k apart = refl
+no_entry s (r ∷ rs) k apart = grind (arith, no_entry s rs k)
 
 -- a spot with the rows of an inline table within a plain value
 pub inline_holds : (spot : Spot) (v : PlainValue) (z : Vec Row Global) (rs : List Row) → spot ≡ spots.Plain v
@@ -194,64 +145,45 @@ means (spots.Plain v) rs simple holds = go (raws.out-Raw v.value.now) refl holds
         }
     go x is holds = absurd holds
 
--- the keys of simple rows differ, and their data is that of a table
+-- the data of simple rows are those of a table
 module _ (rs : List Row) (simple : are_few_simple 0 rs ≡ true) where
-  pub rows_simple : are_simple 0 rs ≡ true
-  rows_simple = (and_parts _ _ simple).1
-
-  pub rows_differ : are_distinct (map key_of rs) ≡ true
-  rows_differ = keys_differ 0 rs rows_simple
-
   pub key_found : (n : ℕ) (r : Row) → slice_get rs n ≡ Some r
       → data_at (rows_data rs) (key_of r) ≡ Some (plain_data (out-Row r).value)
-  key_found n r read = rw (few_data rs simple) (row_data rs n r rows_differ read)
+  key_found n r read =
+      rw (
+        ← (section_table_data 0 rs simple),
+        data_at_found (section_table 0 rs) (key_of r) (child_of 0 r) (section_at rs simple 0 n r read),
+        section_row_data 0 r (plain_read rs simple n r read),
+      ) refl
 
   pub key_absent : (k : List ℕ) → is_among (map key_of rs) k ≡ false → data_at (rows_data rs) k ≡ None
-  key_absent k absent = rw (few_data rs simple) (no_data rs k absent)
+  key_absent k absent =
+      rw (← (section_table_data 0 rs simple))
+      (data_at_absent (section_table 0 rs) k (rw (entries_are 0 rs) (no_entry 0 rs k absent)))
 
   pub rows_entries : entries_in (rows_data rs) ≡ map row_pair rs
   rows_entries = ap entries_in (few_data rs simple) ∙ paired-members (map row_pair rs)
 
   pub entries_differ : IsTrue (are_distinct (pair_keys (entries_in (rows_data rs))))
-  entries_differ = rw (rows_entries, row_keys rs) rows_differ
-
--- the row at a position is plain
-pub plain_at : (rs : List Row) → are_few_simple 0 rs ≡ true → (n : ℕ) (r : Row) → n < length rs → r ≡ get_or rs n r
-    → is_plain (out-Row r).value 0 ≡ true
-plain_at rs simple n r within read = row_at rs n r within read (rows_simple rs simple)
+  entries_differ = rw (rows_entries, row_keys rs) (rows_differ rs simple)
 
 -- the data of the node of a row
 pub row_node_data : (from node : Node) (r : Row) → IsPlainRow from r node
     → node_data node ≡ plain_data (out-Row r).value
 row_node_data from node r is = ap spot_data is.spot ∙ ap plain_data is.value
 
--- where a node stands that headers did not make, they made nothing
-path_unmade : (from : Node) (tree : Tree) (p : Path) → StandsAt tree p from
-    → spot_is_made from.count from.spot ≡ false → (sections : List Section) → IsResolved sections tree
-    → grammar.is_made (located sections) p ≡ false
-path_unmade from tree [] stands unmade sections resolved =
-    absurd (false≢true (sym unmade ∙ (root_at tree from [] stands refl).0.made))
-path_unmade from tree (s ∷ p) stands unmade sections resolved =
-    made_in_trie sections (tree_trie tree) resolved.stands (s ∷ p) refl
-    ∙ false_from_ne_true _ (λ made. false≢true (sym unmade ∙ (table_at tree from (s ∷ p) stands made).0.made))
-
 -- What a node keeps of the keys that lead to a row of an inline table, below which nothing is made.
-module _ (from node : Node) (k : List ℕ) (unmade : spot_is_made from.count from.spot ≡ false)
+module _ (from node : Node) (k : List ℕ) (r : Row) (unmade : spot_is_made from.count from.spot ≡ false)
     (none : wraps_table from.spot ≡ false → below (key k) (spot_trie from.spot) ≡ nothing)
-    (trail : node.trail ≡ from.trail) (tree : Tree) (p : Path) (stands : StandsAt tree p from) where
-  not_there : trie_at (p ++ key k ∷ []) (tree_trie tree) ≡ nothing
-  not_there = elim stands.there [
-    | inl nothing_there ↦ at_more p (key k) (tree_trie tree) ∙ ap (below (key k)) nothing_there
-    | inr there ↦ at_more p (key k) (tree_trie tree) ∙ ap (below (key k)) (sym there.0) ∙ none there.1
-  ]
-
-  row_keeps : CountsOn from node.count → KeepsKeys tree (p ++ key k ∷ []) node
-  row_keeps counts = (
-    count_keeps from node k counts tree p stands,
-    λ sections resolved made. absurd (false≢true (sym (ap (λ t. stands_made (standing t)) not_there)
-        ∙ sym (made_in_trie sections (tree_trie tree) resolved.stands (p ++ key k ∷ []) (no_root p (key k))) ∙ made)),
-    rows_on from node (key k) (λ m first is. trail) tree p stands (λ sections resolved l is made.
-        absurd (false≢true (sym (path_unmade from tree p stands unmade sections resolved) ∙ made))),
+    (is : IsPlainRow from r node) (tree : Tree) (p : Path) (stands : StandsAt tree p from) where
+  row_keeps : KeepsKeys tree (p ++ key k ∷ []) node
+  row_keeps = (
+    count_keeps from node k is.count tree p stands,
+    λ sections resolved made. absurd (false≢true (sym (ap (spot_is_made 1) is.spot)
+        ∙ made_below sections tree resolved p k node (further from node (key k) (λ own. inl (none own)) tree p stands)
+        made)),
+    rows_on from node (key k) (λ m first at. is.trail) tree p stands (λ sections resolved l at made.
+        absurd (false≢true (sym unmade ∙ (made_at sections tree from p resolved stands made).0.made))),
   )
 
 -- the node of a row of an inline table stands at its key
@@ -261,7 +193,7 @@ module _ (from node : Node) (rs : List Row) (holds : HoldsRows from.spot rs) (si
   row_comes s =
       comes_alike (λ q. rw (
         (means from.spot rs simple holds).origins from.start s (key_of r) q,
-        own_origins s rs n r q (rows_differ rs simple) read,
+        own_origins s rs n r q simple read,
         ← (is.start),
         ← (is.value),
       ) refl)
@@ -277,13 +209,12 @@ module _ (from node : Node) (rs : List Row) (holds : HoldsRows from.spot rs) (si
       (rw (means.is_data, row_node_data from node r is) (key_found rs simple n r read)) (λ own. inl (none own))
       row_comes tree p stands is.nested
       (rw (around_key p (key_of r)) (keeps_below from node (rw (is.outer, unmade) refl) tree p stands))
-      (row_keeps from node (key_of r) unmade none is.trail tree p stands is.count)
+      (row_keeps from node (key_of r) r unmade none is tree p stands)
 
 -- the row that is found at a key of such rows
 module _ (rs : List Row) (simple : are_few_simple 0 rs ≡ true) (k : List ℕ) (r : Row) (found : IsRowAt rs k r) where
   pub found_plain : is_plain (out-Row r).value 0 ≡ true
-  found_plain =
-      plain_at rs simple found.0 r (slice_get_within _ _ _ found.1) (sym (get_or_from_slice_get rs found.0 r r found.1))
+  found_plain = plain_read rs simple found.0 r found.1
 
   pub found_row : (from node : Node) → node_data from ≡ rows_data rs → HoldsRows from.spot rs → IsPlainRow from r node
       → GivenAt from k node
@@ -329,15 +260,9 @@ module _ (before : Entries) (rs : List Row) (here : node_data before.table ≡ r
   no_row_left past = none_left before (rw entries_seen (omega (arith, length-map rs row_pair, past)))
 
   -- the row at its place comes first of what is left, and the iterator goes on
-  pub gives_row : (r : Row) (k : Bor (List ℕ)) (node : Node) → before.at < length rs → r ≡ get_or rs before.at r
-      → k.now ≡ key_of r → (is_plain (out-Row r).value 0 ≡ true → node_data node ≡ plain_data (out-Row r).value)
-      → (slice_get rs before.at ≡ Some r → AtKey before.table (key_of r) node)
+  pub gives_row : (r : Row) (k : Bor (List ℕ)) (node : Node) → slice_get rs before.at ≡ Some r → k.now ≡ key_of r
+      → node_data node ≡ plain_data (out-Row r).value → AtKey before.table (key_of r) node
       → GivesNext before (k, node) (record { table = before.table; at = before.at + 1 })
-  gives_row r k node within read same is stands =
-      let there = slice_get_read _ _ _ _ refl within read in
-      gives_next before (k, node) (rw (
-        entries_seen,
-        read_mapped row_pair rs before.at r there,
-        same,
-        is (plain_at rs simple before.at r within read),
-      ) refl) (rw same (stands there))
+  gives_row r k node there same is stands =
+      gives_next before (k, node) (rw (entries_seen, read_mapped row_pair rs before.at r there, same, is) refl)
+      (rw same stands)

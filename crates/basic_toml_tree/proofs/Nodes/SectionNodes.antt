@@ -1,17 +1,23 @@
 -- The nodes of the rows of a section, which stand as they were read for the table of its header.
-use Rattle.std.proofs.Common.{◌≡◌, ◌⊎◌, inl, inr, ◌∷◌, [], ℕ, true, false, List, Some, map, refl, ap, sym, ◌∙◌}
-use Rattle.std.proofs.Common.{zero, suc, rules, Box, Global}
+use Rattle.std.proofs.Common.{◌≡◌, ◌⊎◌, inl, inr, ℕ, true, false, List, Some, map, refl, ap, sym, ◌∙◌}
+use Rattle.std.proofs.Common.{rules, Box, Global}
 use Rattle.std.specs.Prelude.{slice_get}
+use Rattle.std.proofs.lemmas.Bool.{and_parts}
+use Rattle.std.proofs.lemmas.Option.{get_or_from_slice_get, slice_get_within}
+use Rattle.std.proofs.lemmas.Simd.{map-map}
 use Rattle.std.specs.Borrow.{Bor}
 use Rattle.basic_toml_index.specs.Keys.{are_distinct}
-use Rattle.basic_toml_index.proofs.DistinctKeys.{bytes_eq-same}
+use Rattle.basic_toml_index.proofs.DistinctKeys.{is_among-before}
 use Rattle.basic_toml_value.specs.Data.{Data}
-use Rattle.basic_toml_value.specs.Pairs.{value_at}
+use Rattle.basic_toml_value.specs.Pairs.{keys_of, value_at}
+use Rattle.basic_toml_value.proofs.KeysChanged.{first_at}
 use Rattle.basic_toml_read.specs.declared.section.Row.{Row, out-Row}
-use Rattle.basic_toml_plain.specs.Plain.{are_few_simple, is_plain, key_of, plain_data, rows_data}
+use Rattle.basic_toml_plain.specs.Plain.{are_few_simple, are_simple, is_plain, key_of, plain_data, rows_data}
+use Rattle.basic_toml_plain.proofs.PlainLeft.{row_at}
+use Rattle.basic_toml_plain.proofs.SimpleKeys.{keys_differ}
 use Rattle.basic_toml_plain.specs.Tries.{tree_data}
 use Rattle.basic_toml_grow.specs.Item.{child_trie, item_trie, table_trie}
-use Rattle.basic_toml_grow.specs.Simple.{child_of, entries_of, section_table}
+use Rattle.basic_toml_grow.specs.Simple.{child_of, entries_of, entry_of, section_table}
 use Rattle.basic_toml_grow.specs.declared.item.Item.{Item, out-Item, the_lemmas}
 use Rattle.basic_toml_grow.specs.declared.item.Item as items
 use Rattle.basic_toml_grow.specs.declared.item.Item.TheOpen.{Item-F}
@@ -32,19 +38,30 @@ use Rattle.basic_toml_tree.proofs.SectionData.{section_rows, section_table_data}
 use Rattle.basic_toml_tree.proofs.TrieData.{item_trie_data}
 use Rattle.basic_toml_tree.proofs.Nodes.EntryNodes.{entry_given, entry_stands}
 use Rattle.basic_toml_tree.proofs.Nodes.NodesStand.{GivenAt}
-use Rattle.basic_toml_tree.proofs.Nodes.RowNodes.{first_apart, later_key, rows_differ}
+use Rattle.basic_toml_tree.proofs.Nodes.NodesInOrder.{read_mapped}
 
--- the entry of a row
-row_entry : (s : ℕ) (rows : List Row) (n : ℕ) (r : Row) → are_distinct (map key_of rows) ≡ true
-    → slice_get rows n ≡ Some r → value_at (entries_of s rows) (key_of r) ≡ Some (child_of s r)
-row_entry s [] n r differ read = absurd (cc)
-row_entry s (x ∷ rows) zero r differ read = let same : x ≡ r = cc in rw (← same, bytes_eq-same (key_of x)) refl
-row_entry s (x ∷ rows) (suc n) r differ read =
-    rw (later_key x rows n r differ read) (row_entry s rows n r (first_apart x rows differ).1 read)
+-- simple rows: their keys differ, and their values are plain
+module _ (rows : List Row) (simple : are_few_simple 0 rows ≡ true) where
+  rows_simple : are_simple 0 rows ≡ true
+  rows_simple = (and_parts _ _ simple).1
 
-section_at : (s : ℕ) (rows : List Row) → are_few_simple 0 rows ≡ true → (n : ℕ) (r : Row) → slice_get rows n ≡ Some r
-    → value_at (out-Table (section_table s rows)).entries (key_of r) ≡ Some (child_of s r)
-section_at s rows simple n r read = rw (entries_are s rows) (row_entry s rows n r (rows_differ rows simple) read)
+  pub rows_differ : are_distinct (map key_of rows) ≡ true
+  rows_differ = keys_differ 0 rows rows_simple
+
+  pub plain_read : (n : ℕ) (r : Row) → slice_get rows n ≡ Some r → is_plain (out-Row r).value 0 ≡ true
+  plain_read n r read =
+      row_at rows n r (slice_get_within _ _ _ read) (sym (get_or_from_slice_get rows n r r read)) rows_simple
+
+  -- the entry of a row
+  pub section_at : (s n : ℕ) (r : Row) → slice_get rows n ≡ Some r
+      → value_at (out-Table (section_table s rows)).entries (key_of r) ≡ Some (child_of s r)
+  section_at s n r read =
+      let entries = entries_of s rows in
+      let there = read_mapped (entry_of s) rows n r read in
+      let at = read_mapped (λ p. p.0) entries n (entry_of s r) there in
+      rw (entries_are s rows) (first_at entries n (key_of r) (child_of s r) at
+      (is_among-before (keys_of entries) n (key_of r) (rw map-map rows_differ) at)
+      (read_mapped (λ p. p.1) entries n (entry_of s r) there))
 
 -- a child stands for its item
 pub child_is : (c : Child) → item_trie (out-Child c).item ≡ child_trie c
@@ -68,12 +85,12 @@ module _ (from node : Node) (s : ℕ) (rows : List Row) (holds : HoldsTable from
   pub section_row_stands : (n : ℕ) (r : Row) → slice_get rows n ≡ Some r
       → IsEntry from (key_of r) (child_of s r) node → AtKey from (key_of r) node
   section_row_stands n r read is =
-      entry_stands (section_table s rows) holds whole (section_at s rows simple n r read) is
+      entry_stands (section_table s rows) holds whole (section_at rows simple s n r read) is
 
   pub section_found : (k : List ℕ) (r : Row) → IsRowAt rows k r → IsEntry from (key_of r) (child_of s r) node
       → GivenAt from k node
   section_found k r found is =
-      rw (← (found.2)) (entry_given (section_table s rows) holds whole (section_at s rows simple found.0 r found.1) is)
+      rw (← (found.2)) (entry_given (section_table s rows) holds whole (section_at rows simple s found.0 r found.1) is)
 
 -- what stands for the table of a header, of which one header alone speaks
 module _ (c : Child) (rows : List Row) (is : (out-Child c).item ≡ items.Section rows)
