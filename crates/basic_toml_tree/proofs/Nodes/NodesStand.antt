@@ -1,12 +1,10 @@
 -- A node below another one stands at the path of that one and one more step.
 use Rattle.std.proofs.Common.{◌≡◌, ◌⊎◌, inl, inr, ◌==◌, ℕ, Bool, true, false, List, [], ◌∷◌}
-use Rattle.std.proofs.Common.{◌++◌, Some, None, refl, ap, sym, ◌∙◌, rules, Vec, Global}
+use Rattle.std.proofs.Common.{◌++◌, Some, refl, ap, sym, ◌∙◌, arith, rules, Vec, Global}
 use Rattle.std.specs.Prelude.{slice_get}
 use Rattle.std.specs.Option.{option_and_then}
-use Rattle.std.specs.Str.{bytes_eq}
 use Rattle.std.proofs.lemmas.Slice.Eq.{bytes_eq-Decides}
 use Rattle.std.specs.Borrow.{Bor}
-use Rattle.std.proofs.lemmas.Bool.{cases_Bool}
 use Rattle.basic_toml_value.specs.Data.{Data}
 use Rattle.basic_toml_value.specs.Pairs.{value_at}
 use Rattle.basic_toml_index.proofs.DistinctKeys.{bytes_eq-same, bytes_eq_other}
@@ -39,12 +37,13 @@ use Rattle.basic_toml_tree.specs.Nodes.{node_data, data_at, elements_in}
 use Rattle.basic_toml_tree.specs.HeaderTables.{table_of}
 use Rattle.basic_toml_tree.specs.Outer.{around}
 use Rattle.basic_toml_tree.specs.Paths.{data_by, data_along}
-use Rattle.basic_toml_grow.specs.Origins.{child_origins, item_origins, value_origins}
+use Rattle.basic_toml_grow.specs.Origins.{child_origins, value_origins}
 use Rattle.basic_toml_tree.proofs.Nodes.PlainNodes.{element_comes}
 use Rattle.basic_toml_grow.proofs.ItemTries.{table_entries_trie}
 use Rattle.basic_toml_grow.proofs.PlainArrays.{plain_trie}
 use Rattle.basic_toml_grow.proofs.ItemsStand.{shape}
-use Rattle.basic_toml_tree.proofs.Nodes.NodesCome.{comes_on, literal_comes}
+use Rattle.basic_toml_tree.proofs.Nodes.NodesCome.{comes_alike, comes_on}
+use Rattle.basic_toml_grow.proofs.Origins.OriginsSeen.{array_seen}
 use Rattle.basic_toml_tree.proofs.Nodes.Lines.{around_number}
 use Rattle.basic_toml_tree.proofs.Nodes.NodesInOrder.{array_elements, read_mapped}
 use Rattle.basic_toml_grow.proofs.KeysInATrie.{tries_of}
@@ -55,10 +54,8 @@ at_more (r ∷ p) s t = at_more p s (below r t)
 
 -- the data one step on from a path
 data_more : (p : Path) (s : Step) (d : Data) → data_along (p ++ s ∷ []) d ≡ option_and_then (data_by s) (data_along p d)
-data_more [] s d = elim (data_by s d) as (λ o. option_and_then (data_along []) o ≡ o) [ None ↦ refl | Some x ↦ refl ]
-data_more (r ∷ p) s d =
-    elim (data_by r d) as (λ o. option_and_then (data_along (p ++ s ∷ [])) o
-    ≡ option_and_then (data_by s) (option_and_then (data_along p) o)) [ None ↦ refl | Some x ↦ data_more p s x ]
+data_more [] s d = grind arith
+data_more (r ∷ p) s d = grind (arith, data_more p s)
 
 pub no_root : (p : Path) (s : Step) → is_root (p ++ s ∷ []) ≡ false
 no_root [] s = refl
@@ -69,12 +66,8 @@ find_key : (ps : List (List ℕ × Child)) (k : List ℕ) (c : Child) → value_
     → find (key k) (by_keys (tries_of child_trie ps)) ≡ child_trie c
 unfolding tries_of
 find_key [] k c found = absurd (cc)
-find_key (p ∷ ps) k c found = elim (cases_Bool (bytes_eq k p.0)) [
-  | inl e ↦
-      let same : k ≡ p.0 = (bytes_eq-Decides k p.0).0 e in
-      let this : p.1 ≡ c = cc (rw e at found) in rw (same, bytes_eq-same p.0) (ap child_trie this)
-  | inr e ↦ rw (bytes_eq_other p.0 k e) (find_key ps k c (rw e at found))
-]
+find_key (p ∷ ps) k c found =
+    grind (arith, bytes_eq-Decides k p.0, bytes_eq-same p.0, bytes_eq_other p.0 k, find_key ps k c)
 
 abbrev NothingOr : Step → Trie → Trie → Type 0
 NothingOr s from t = (below s from ≡ nothing) ⊎ (t ≡ below s from)
@@ -169,9 +162,6 @@ beside_stands from node here n beside array read more comes tree p stands =
     (rw (around_number p n, beside.outer) stands.outer)
     (keys_beside from node here n beside tree p stands)
 
-plain_origins : (es : List Element) (at s : ℕ) → item_origins (Plain es) at s ≡ value_origins s at (plain_array es)
-plain_origins es at s = search (rules, the_lemmas)
-
 -- an element of an array of plain values
 element_stands : (from node : Node) (n : ℕ) (es : List Element) → IsPlainElement from es n node
     → spot_trie from.spot ≡ leaf (finished (plain_array es))
@@ -199,12 +189,16 @@ module _ (from node : Node) (n : ℕ) (b : Bor Item) (at : from.spot ≡ spots.I
       rw (at, is, array_elements children, same) (read_mapped child_data children.items n child there) in (
         read,
         beside_stands from node spot n beside (rw (at, is) (search (rules, the_lemmas))) read
-            (λ own. inl (rw (at, is) (search (rules, the_lemmas)))) (λ counted s. literal_comes from node n b at
-            children child is (read_mapped child_origins children.items n child there) comes s),
+            (λ own. inl (rw (at, is) (search (rules, the_lemmas)))) (λ counted s. comes_alike (λ q. rw (
+              at,
+              is,
+              array_seen children from.start s,
+              read_mapped child_origins children.items n child there,
+            ) refl) comes),
       )
 
   pub plain_stand : (es : List Element) → b.now ≡ Plain es → IsPlainElement from es n node
       → slice_get (elements_in (node_data from)) n ≡ Some (node_data node) → StandsOn from (number n) node
   plain_stand es is placed read =
       element_stands from node n es placed (rw (at, is) (plain_trie es))
-      (λ start s. rw (at, is) (plain_origins es start s)) read
+      (λ start s. rw (at, is) (search (rules, the_lemmas))) read

@@ -6,10 +6,10 @@ use Rattle.std.specs.Prelude.{slice_get}
 use Rattle.std.specs.Borrow.{Bor}
 use Rattle.std.specs.Str.{bytes_eq}
 use Rattle.std.proofs.lemmas.Bool.{false≢true}
-use Rattle.std.proofs.lemmas.List.{take_more, map-append, length-map, drop_all}
+use Rattle.std.proofs.lemmas.Grind.{common_steps}
+use Rattle.std.proofs.lemmas.List.{map-append, length-map, drop_all}
 use Rattle.std.specs.Iterator.{MakesProgress, item_count}
 use Rattle.std.specs.declared.iter.Iterator.{can_next-default}
-use Rattle.basic_toml_value.specs.Data.{Data, members_of}
 use Rattle.basic_toml_index.specs.Keys.{is_among, are_distinct}
 use Rattle.basic_toml_index.proofs.DistinctKeys.{bytes_eq_other, is_among-push}
 use Rattle.basic_toml_grammar.specs.Mentions.{finished}
@@ -22,7 +22,7 @@ use Rattle.basic_toml_read.specs.declared.section.Raw.TheOpen.{Raw-F}
 use Rattle.basic_toml_read.specs.declared.section.Element.{Element}
 use Rattle.basic_toml_read.specs.declared.section.Row.{Row, out-Row}
 use Rattle.basic_toml_read.specs.declared.section.Rows as code_rows
-use Rattle.basic_toml_plain.specs.Plain.{key_of, is_plain, are_few_simple, plain_data, plain_table}
+use Rattle.basic_toml_plain.specs.Plain.{key_of, are_few_simple, plain_data, plain_table}
 use Rattle.basic_toml_plain.specs.Plain.{rows_data}
 use Rattle.basic_toml_plain.specs.Tries.{leaf}
 use Rattle.basic_toml_plain.specs.Values.{row_pair}
@@ -41,7 +41,7 @@ use Rattle.basic_toml_tree.proofs.SectionData.{section_table_data}
 use Rattle.basic_toml_tree.specs.Nodes.{node_data, spot_data, data_at, entries_in, entries_left}
 use Rattle.basic_toml_tree.specs.Nodes.{key_and_data}
 use Rattle.basic_toml_tree.specs.Origin.{spot_is_made, holds_tables}
-use Rattle.basic_toml_tree.specs.Stands.{AtKey, IsRowAt, ComesFrom, HoldsRows, ItemRows, RawRows, IsPlainRow, StandsAt}
+use Rattle.basic_toml_tree.specs.Stands.{AtKey, ComesFrom, HoldsRows, ItemRows, RawRows, IsPlainRow, StandsAt}
 use Rattle.basic_toml_tree.specs.Stands.{StandsOn, spot_trie, spot_origins, node_origins}
 use Rattle.basic_toml_tree.specs.Stands.{is_wrapper, wraps_table, GivesEntry}
 use Rattle.basic_toml_tree.specs.declared.entries.Entries.{Entries}
@@ -66,14 +66,7 @@ pub none_passed : (rs : List Row) (n : ℕ) (r : Row) (k : List ℕ) → n < len
     → is_among (map key_of (take n rs)) k ≡ false → bytes_eq (key_of r) k ≡ false
     → is_among (map key_of (take (n + 1) rs)) k ≡ false
 none_passed rs n r k within read before other =
-    rw (
-      take_more rs n r within,
-      ← read,
-      map-append key_of (take n rs) (r ∷ []),
-      is_among-push (map key_of (take n rs)) (key_of r) k,
-      before,
-      bytes_eq_other k (key_of r) other,
-    ) refl
+    grind (arith, common_steps, map-append key_of, is_among-push, bytes_eq_other k (key_of r))
 
 -- the origins of a row are those of its value
 own_origins : (s : ℕ) (rs : List Row) (n : ℕ) (r : Row) (q : Path) → are_few_simple 0 rs ≡ true
@@ -94,42 +87,36 @@ no_entry s (r ∷ rs) k apart = grind (arith, no_entry s rs k)
 -- a spot with the rows of an inline table within a plain value
 pub inline_holds : (spot : Spot) (v : PlainValue) (z : Vec Row Global) (rs : List Row) → spot ≡ spots.Plain v
     → v.value.now ≡ raws.Inline z → rs ≡ z.items → HoldsRows spot rs
-inline_holds spot v z rs at is same =
-    let form : raws.out-Raw (raws.Inline z) ≡ Raw-F.Inline z = search (rules, raws.the_lemmas) in
-    rw (at, is, form) same
+inline_holds spot v z rs at is same = rw (at, is, same) (search (rules, raws.the_lemmas))
 
 -- what a spot with rows stands for
 pub record Means (spot : Spot) (rs : List Row) : Type 0 where
   pub trie : wraps_table spot ≡ false → spot_trie spot ≡ leaf (rows_data rs)
-  pub is_data : spot_data spot ≡ rows_data rs
   pub origins : (at s : ℕ) (k : List ℕ) (q : Path)
       → spot_origins spot at s (key k ∷ q) ≡ value_origins s at (plain_table rs) (key k ∷ q)
   pub unmade : (count : ℕ) → spot_is_made count spot ≡ false
 
-pub means : (spot : Spot) (rs : List Row) → are_few_simple 0 rs ≡ true → HoldsRows spot rs → Means spot rs
-means (spots.Table table) rs simple holds = absurd holds
-means (spots.Item b) rs simple holds = go (out-Item b.now) refl holds
+pub means : (spot : Spot) (rs : List Row) → HoldsRows spot rs → Means spot rs
+means (spots.Table table) rs holds = absurd holds
+means (spots.Item b) rs holds = go (out-Item b.now) refl holds
   where
     go : (x : Item-F Item Child Table) → out-Item b.now ≡ x → ItemRows x rs → Means (spots.Item b) rs
     go (Item-F.Rows z) is holds =
         let item = shape b.now (Item-F.Rows z) is in
         rw holds (record {
           trie = λ own. rw item (search (rules, the_lemmas));
-          is_data = rw item (search (rules, the_lemmas));
           origins = λ at s k q. rw item (search (rules, the_lemmas));
           unmade = λ count. ap holds_tables is;
         })
     go (Item-F.Section z) is holds =
         let item = shape b.now (Item-F.Section z) is in
-        let few : rows_data z ≡ Data.table (members_of (map row_pair z)) = few_data z (rw holds at simple) in
         rw holds (record {
           trie = λ own. absurd (false≢true (sym own ∙ ap is_wrapper is));
-          is_data = rw (item, few) (search (rules, the_lemmas));
           origins = λ at s k q. rw item (search (rules, the_lemmas));
           unmade = λ count. ap holds_tables is;
         })
     go x is holds = absurd holds
-means (spots.Plain v) rs simple holds = go (raws.out-Raw v.value.now) refl holds
+means (spots.Plain v) rs holds = go (raws.out-Raw v.value.now) refl holds
   where
     go : (x : Raw-F raws.Raw Element Row code_rows.Rows) → raws.out-Raw v.value.now ≡ x → RawRows x rs
         → Means (spots.Plain v) rs
@@ -139,7 +126,6 @@ means (spots.Plain v) rs simple holds = go (raws.out-Raw v.value.now) refl holds
         ap raw_of (sym (raws.roll-out-Raw v.value.now) ∙ ap raws.roll-Raw is) ∙ made ∙ ap plain_table (sym holds) in
         record {
           trie = λ own. ap (λ v. leaf (finished v)) seen;
-          is_data = ap finished seen;
           origins = λ at s k q. ap (λ v. value_origins s at v (key k ∷ q)) seen;
           unmade = λ count. refl;
         }
@@ -186,13 +172,17 @@ module _ (from node : Node) (k : List ℕ) (r : Row) (unmade : spot_is_made from
         absurd (false≢true (sym unmade ∙ (made_at sections tree from p resolved stands made).0.made))),
   )
 
--- the node of a row of an inline table stands at its key
-module _ (from node : Node) (rs : List Row) (holds : HoldsRows from.spot rs) (simple : are_few_simple 0 rs ≡ true)
-    (n : ℕ) (r : Row) (read : slice_get rs n ≡ Some r) (is : IsPlainRow from r node) where
+-- the node of a row of an inline table stands at its key, and so do its data
+module _ (from node : Node) (rs : List Row) (here : node_data from ≡ rows_data rs) (holds : HoldsRows from.spot rs)
+    (simple : are_few_simple 0 rs ≡ true) (n : ℕ) (r : Row) (read : slice_get rs n ≡ Some r)
+    (is : IsPlainRow from r node) where
+  row_data : data_at (node_data from) (key_of r) ≡ Some (node_data node)
+  row_data = rw (here, row_node_data from node r is) (key_found rs simple n r read)
+
   row_comes : (s : ℕ) → ComesFrom (λ q. node_origins s from (key (key_of r) ∷ q)) node
   row_comes s =
       comes_alike (λ q. rw (
-        (means from.spot rs simple holds).origins from.start s (key_of r) q,
+        (means from.spot rs holds).origins from.start s (key_of r) q,
         own_origins s rs n r q simple read,
         ← (is.start),
         ← (is.value),
@@ -201,27 +191,16 @@ module _ (from node : Node) (rs : List Row) (holds : HoldsRows from.spot rs) (si
 
   pub row_stands : StandsOn from (key (key_of r)) node
   row_stands tree p stands =
-      let means = means from.spot rs simple holds in
+      let means = means from.spot rs holds in
       let unmade = means.unmade from.count in
       let none : wraps_table from.spot ≡ false → below (key (key_of r)) (spot_trie from.spot) ≡ nothing =
       λ own. ap (below (key (key_of r))) (means.trie own) in
-      stands_on from node (key (key_of r)) is.tree
-      (rw (means.is_data, row_node_data from node r is) (key_found rs simple n r read)) (λ own. inl (none own))
-      row_comes tree p stands is.nested
+      stands_on from node (key (key_of r)) is.tree row_data (λ own. inl (none own)) row_comes tree p stands is.nested
       (rw (around_key p (key_of r)) (keeps_below from node (rw (is.outer, unmade) refl) tree p stands))
       (row_keeps from node (key_of r) r unmade none is tree p stands)
 
--- the row that is found at a key of such rows
-module _ (rs : List Row) (simple : are_few_simple 0 rs ≡ true) (k : List ℕ) (r : Row) (found : IsRowAt rs k r) where
-  pub found_plain : is_plain (out-Row r).value 0 ≡ true
-  found_plain = plain_read rs simple found.0 r found.1
-
-  pub found_row : (from node : Node) → node_data from ≡ rows_data rs → HoldsRows from.spot rs → IsPlainRow from r node
-      → GivenAt from k node
-  found_row from node here holds is = rw (← (found.2)) (record {
-    «data» = rw (here, row_node_data from node r is) (key_found rs simple found.0 r found.1);
-    stands = row_stands from node rs holds simple found.0 r found.1 is;
-  })
+  pub row_given : (k : List ℕ) → key_of r ≡ k → GivenAt from k node
+  row_given k same = rw (← same) (record { «data» = row_data; stands = row_stands })
 
 -- An iterator gives an entry of its table, and goes on to the next.
 abbrev pub GivesNext : Entries → Bor (List ℕ) × Node → Entries → Type 0

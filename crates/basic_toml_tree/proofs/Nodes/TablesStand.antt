@@ -27,7 +27,7 @@ use Rattle.basic_toml_tree.specs.declared.node.Node.{Node}
 use Rattle.basic_toml_tree.specs.declared.spot.HeaderTable.{HeaderTable}
 use Rattle.basic_toml_tree.specs.declared.spot.Spot.TheVariants as spots
 use Rattle.basic_toml_tree.proofs.SectionData.{section_table_data}
-use Rattle.basic_toml_tree.proofs.Nodes.NodesCome.{comes_alike, table_node_comes}
+use Rattle.basic_toml_tree.proofs.Nodes.NodesCome.{comes_alike, table_comes}
 use Rattle.basic_toml_tree.proofs.Nodes.NodesInOrder.{sections_elements, tables_elements, read_mapped}
 use Rattle.basic_toml_tree.proofs.Nodes.NodesStand.{tells_table, beside_stands}
 
@@ -104,7 +104,7 @@ table_stands from node n b t at i is among beside start =
     rw (at, is, beside.spot) (sym among.is_trie) in (
       read,
       beside_stands from node (spots.Table t) n beside (rw (at, is) among.tables) read
-          (λ own. inr (there, ap wraps_table beside.spot)) (λ counted s. comes_alike
+          (λ own. inr (there, ap wraps_table beside.spot)) (λ counted s. rw (beside.spot, start) (comes_alike
           (λ q. rw (at, is) (among.origins from.start s q))
-          (table_node_comes t node from.start s beside.spot start counted)),
+          (table_comes (table_of t) t node.count from.start s refl counted))),
     )

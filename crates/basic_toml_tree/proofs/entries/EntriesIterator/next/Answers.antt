@@ -56,7 +56,7 @@ returns-in_ok-row-in-Rows c =
     let there = slice_get_read _ _ _ _ refl read.3.0 read.1 in
     gives_row c.args.self.now rows table.«data» table.fields.1 r c.as_str.result c.plain_row.result there
     c.as_str.ensures.value (row_node_data from c.plain_row.result r c.plain_row.ensures)
-    (row_stands from c.plain_row.result rows table.fields.0 table.fields.1 c.args.self.now.at r there
+    (row_stands from c.plain_row.result rows table.«data» table.fields.0 table.fields.1 c.args.self.now.at r there
     c.plain_row.ensures)
 
 -- the rows of a section
