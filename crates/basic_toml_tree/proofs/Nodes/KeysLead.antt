@@ -1,8 +1,8 @@
 -- Headers that begin with keys.
-use Rattle.std.proofs.Common.{◌≡◌, ◌⊎◌, inl, inr, ◌≤◌, ◌<◌, ℕ, true, false, List, [], ◌∷◌, ◌++◌, length, map, min}
-use Rattle.std.proofs.Common.{take, Some, refl, ap, sym, ◌∙◌, arith, get_or}
+use Rattle.std.proofs.Common.{◌≡◌, ◌⊎◌, inl, inr, ◌<◌, ℕ, true, false, List, [], ◌∷◌, ◌++◌, length, map}
+use Rattle.std.proofs.Common.{take, Some, refl, ap, sym, ◌∙◌, get_or}
 use Rattle.std.specs.Prelude.{slice_get, IfSome}
-use Rattle.std.proofs.lemmas.List.{length-map, length-take, get_or-take, get_or_past}
+use Rattle.std.proofs.lemmas.List.{length-map, get_or-take}
 use Rattle.std.proofs.lemmas.Option.{IfSome_then, get_or_from_slice_get}
 use Rattle.basic_toml_grammar.specs.IndexedPath.{Located, located}
 use Rattle.basic_toml_grammar.specs.Nodes.{is_made}
@@ -33,16 +33,11 @@ pub key_there : (keys : List Key) (n : ℕ) (k : Key) → n < length keys → k 
 key_there keys n k within read =
     read_mapped (λ k. k.text) (map key_of keys) n (key_of k) (mapped_read key_of keys n k within read)
 
--- the key at a number of the first so many, and past the last of them
+-- the key at a number of the first so many
 pub among_first : (keys : KeyTexts) (count n : ℕ) (k found : List ℕ) → n < count → slice_get keys n ≡ Some found
     → found ≡ get_or (take count keys) n k
 among_first keys count n k found within there =
     sym (get_or-take count keys n k within ∙ get_or_from_slice_get keys n found k there)
-
-pub past_first : (keys : KeyTexts) (count n : ℕ) (k : List ℕ) → min count (length keys) ≤ n
-    → k ≡ get_or (take count keys) n k
-past_first keys count n k past =
-    sym (get_or_past (take count keys) n k (omega (arith, length-take count keys, past)))
 
 -- what headers made below a path, and at it
 pub made_before : (ls : List Located) (p : Path) (s : Step) → is_made ls (p ++ s ∷ []) ≡ true → is_made ls p ≡ true

@@ -1,5 +1,6 @@
 -- Rows as one list of lines, each with its whole path: which line a path leads to, and where the table around what
 -- stands there begins.
+use Rattle.std.proofs.Common.{arith}
 use Rattle.std.proofs.Common.{◌≡◌, ℕ, Bool, true, false, List, [], ◌∷◌, ◌++◌, Option, Some, None, refl, ap, sym, ◌∙◌}
 use Rattle.std.proofs.Common.{length, drop, ◌⊎◌, inl, inr}
 use Rattle.std.specs.Prelude.{◌&&◌, if◌then◌else◌}
@@ -8,7 +9,7 @@ use Rattle.std.proofs.Math.Bool.{and-false, and-true}
 use Rattle.std.proofs.Math.Seq.{drop-append_seam}
 use Rattle.std.proofs.lemmas.Bool.{false≢true, and_parts, or_parts, or_right, cases_Bool, false_from_ne_true}
 use Rattle.basic_toml_grammar.specs.Sections.{KeyTexts, Raw}
-use Rattle.basic_toml_grammar.specs.Steps.{Step, key, number, Path, step_eq, begins, overlap, steps_of}
+use Rattle.basic_toml_grammar.specs.Steps.{Step, key, number, Path, begins, overlap, steps_of}
 use Rattle.basic_toml_grammar.specs.Nodes.{Node, front, dotted_node, node_in}
 use Rattle.basic_toml_grammar.proofs.AmongElements.{Among, first, next}
 use Rattle.basic_toml_grammar.proofs.Clash.PathsAgree.{append_none}
@@ -43,15 +44,10 @@ ends_in_keys : (p base : Path) (ks : KeyTexts) → begins p (base ++ steps_of ks
     → ends_key p ≡ true
 ends_in_keys [] base ks here not = absurd (false≢true (sym not))
 ends_in_keys (s ∷ p) [] [] here not = absurd (false≢true here)
-ends_in_keys (s ∷ []) [] (k ∷ ks) here not =
-    ap is_key (step_is s (key k) (and_parts _ _ here).0)
-ends_in_keys (s ∷ t ∷ p) [] (k ∷ ks) here not =
-    ends_in_keys (t ∷ p) [] ks (and_parts _ _ here).1 refl
-ends_in_keys (s ∷ []) (b ∷ base) ks here not =
-    let both = and_parts (step_eq s b) true here in absurd (false≢true (sym (rw (both.0) at not)))
-ends_in_keys (s ∷ t ∷ p) (b ∷ base) ks here not =
-    let both = and_parts (step_eq s b) (begins (t ∷ p) (base ++ steps_of ks)) here in
-    ends_in_keys (t ∷ p) base ks both.1 (rw (both.0) at not)
+ends_in_keys (s ∷ []) [] (k ∷ ks) here not = grind (arith, step_is s (key k))
+ends_in_keys (s ∷ t ∷ p) [] (k ∷ ks) here not = grind (arith, ends_in_keys (t ∷ p) [] ks)
+ends_in_keys (s ∷ []) (b ∷ base) ks here not = grind arith
+ends_in_keys (s ∷ t ∷ p) (b ∷ base) ks here not = grind (arith, ends_in_keys (t ∷ p) base ks)
 
 some_key : (p : Path) → ends_key p ≡ true → no_keys p ≡ false
 some_key [] e = absurd (false≢true e)
@@ -76,10 +72,7 @@ around_on (s ∷ p) x e = rw (keys_both p x, e, and-false (no_keys p)) (ap (λ q
 
 around_begins : (p : Path) → begins (around p) p ≡ true
 around_begins [] = refl
-around_begins (s ∷ p) = elim (cases_Bool (no_keys p)) [
-  | inl none ↦ rw none refl
-  | inr some ↦ rw (some, step_same) (around_begins p)
-]
+around_begins (s ∷ p) = grind (arith, step_same s, around_begins p)
 
 -- a step on from a path
 pub around_key : (p : Path) (k : List ℕ) → around (p ++ key k ∷ []) ≡ p

@@ -1,5 +1,6 @@
 -- The rows of values and of section lists, as lines: no line meets another one, and what is told of the nodes in their
 -- values.
+use Rattle.std.proofs.Common.{arith}
 use Rattle.std.proofs.Common.{◌≡◌, ℕ, zero, suc, true, false, List, [], ◌∷◌, ◌++◌, Option}
 use Rattle.std.proofs.Common.{Some, refl, sym, ◌∙◌, inl, inr}
 use Rattle.std.specs.List.{list_any, list_all}
@@ -7,7 +8,7 @@ use Rattle.std.proofs.lemmas.Bool.{false≢true, and_parts, or_parts, false_from
 use Rattle.basic_toml_value.specs.Data.{Data}
 use Rattle.basic_toml_grammar.specs.Sections.{Key, KeyTexts, texts, Raw, Elements, no_elements, element, Rows, no_rows}
 use Rattle.basic_toml_grammar.specs.Sections.{row}
-use Rattle.basic_toml_grammar.specs.Steps.{key, number, Path, step_eq, begins, overlap, steps_of}
+use Rattle.basic_toml_grammar.specs.Steps.{key, number, Path, begins, overlap, steps_of}
 use Rattle.basic_toml_grammar.specs.RowClash.{any_overlaps, rows_clash, value_clashes, elements_clash}
 use Rattle.basic_toml_grammar.specs.IndexedPath.{Located}
 use Rattle.basic_toml_grammar.specs.Entering.{keyed_within, value_keyed, elements_keyed}
@@ -136,10 +137,7 @@ all_sound (l ∷ ls) free keyed =
 overlap_barred : (p q : Path) (d c : Data) → overlap p q ≡ true → bars p (Some d) q (Some c) ≡ true
 overlap_barred [] q d c e = refl
 overlap_barred (s ∷ p) [] d c e = refl
-overlap_barred (s ∷ p) (t ∷ q) d c e = elim (cases_Bool (step_eq s t)) [
-  | inl x ↦ rw x (overlap_barred p q d c (rw (turn_eq t s, x) at e))
-  | inr x ↦ absurd (false≢true (rw (turn_eq t s, x) at e))
-]
+overlap_barred (s ∷ p) (t ∷ q) d c e = grind (arith, turn_eq t s, overlap_barred p q d c)
 
 not_overlap : (p q : Path) (d c : Data) → bars p (Some d) q (Some c) ≡ false → overlap p q ≡ false
 not_overlap p q d c free =

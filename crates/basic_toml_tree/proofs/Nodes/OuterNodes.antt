@@ -1,17 +1,19 @@
 -- The outer offset of a node is where the table around it begins, by the section list alone.
+use Rattle.std.proofs.Common.{arith, drop, length}
 use Rattle.std.proofs.Common.{◌≡◌, inl, inr, ℕ, true, false, List, [], ◌∷◌, ◌++◌, Option, Some, None, refl, sym, ◌∙◌}
 use Rattle.std.specs.Prelude.{not}
 use Rattle.std.specs.List.{list_any, list_all}
 use Rattle.std.specs.Option.{option_or}
-use Rattle.std.proofs.lemmas.Bool.{false≢true, and_parts, or_parts, cases_Bool}
+use Rattle.std.proofs.lemmas.Bool.{false≢true, or_parts}
 use Rattle.std.proofs.lemmas.List.Folds.{list_any-append}
 use Rattle.basic_toml_value.specs.Data.{Data}
 use Rattle.basic_toml_grammar.specs.Sections.{Key, KeyTexts, Rows, no_rows, row}
-use Rattle.basic_toml_grammar.specs.Steps.{Path, step_eq, begins}
+use Rattle.basic_toml_grammar.specs.Steps.{Path, begins}
 use Rattle.basic_toml_grammar.specs.RowClash.{rows_clash}
 use Rattle.basic_toml_grammar.specs.IndexedPath.{Located}
 use Rattle.basic_toml_grammar.specs.Entering.{keyed_within}
 use Rattle.basic_toml_grammar.specs.Mentions.{finished, row_mentions, mentions}
+use Rattle.basic_toml_grammar.specs.Nodes.{front, node_in}
 use Rattle.basic_toml_grammar.specs.Nodes.{Node, is_made, start_in, first_start, holder, node_of_rows, node_of_sections}
 use Rattle.basic_toml_grammar.specs.Tree.{Mention}
 use Rattle.basic_toml_grammar.proofs.AmongElements.{Among, first, next, among_left, among_right, among_either}
@@ -42,24 +44,19 @@ module _ (holder : Path → Option ℕ) (p : Path) where
       → choose holder fs p ≡ None
   none_there e [] on free = refl
   none_there e (f ∷ fs) on free =
-      let split = or_parts _ _ free in
-      let other = neither_begins (path_of e) (path_of f) p on split.0 in
-      rw (other.0, other.1) (none_there e fs on split.1)
+      grind (arith, neither_begins (path_of e) (path_of f) p on, none_there e fs on)
 
   joined : (es fs : List Line) → Apart (es ++ fs)
       → option_or (choose holder es p) (choose holder fs p) ≡ choose holder (es ++ fs) p
   joined [] fs apart = refl
-  joined (e ∷ es) fs (Apart.more free apart) = elim (cases_Bool (begins (path_of e) p)) [
-    | inl x ↦ rw (x, none_there e fs x (fs_free es free)) (one_none _)
-    | inr x ↦ elim (cases_Bool (begins p (path_of e))) [
-      | inl y ↦ rw (x, y) refl
-      | inr y ↦ rw (x, y) (joined es fs apart)
-    ]
-  ]
-    where
-      fs_free : (es : List Line) → list_any (meets e) (es ++ fs) ≡ false → list_any (meets e) fs ≡ false
-      fs_free [] free = free
-      fs_free (g ∷ es) free = fs_free es (or_parts _ _ free).1
+  joined (e ∷ es) fs (Apart.more free apart) =
+      grind (
+        arith,
+        list_any-append (meets e) es fs,
+        none_there e fs,
+        joined es fs apart,
+        one_none (node_in e.names (holder (front (path_of e))) e.at e.value (drop (length (path_of e)) p)),
+      )
 
 apart_rest : (es fs : List Line) → Apart (es ++ fs) → Apart fs
 apart_rest [] fs apart = apart
@@ -85,10 +82,7 @@ starts_rows base name (row ks at v rows) p = rw (starts_rows base name rows p) r
 starts_both : (es fs : List Line) (p : Path)
     → option_or (start_among es p) (start_among fs p) ≡ start_among (es ++ fs) p
 starts_both [] fs p = refl
-starts_both (e ∷ es) fs p = elim (cases_Bool (begins p (path_of e))) [
-  | inl x ↦ rw x refl
-  | inr x ↦ rw x (starts_both es fs p)
-]
+starts_both (e ∷ es) fs p = grind (arith, starts_both es fs p)
 
 starts_all : (ls : List Located) (p : Path) → first_start ls p ≡ start_among (all_lines ls) p
 starts_all [] p = refl
@@ -113,10 +107,7 @@ value_bars : (p q : Path) (d : Data) → begins p q ≡ true
 value_bars [] [] d on = (refl, refl)
 value_bars [] (t ∷ q) d on = (refl, refl)
 value_bars (s ∷ p) [] d on = absurd (false≢true on)
-value_bars (s ∷ p) (t ∷ q) d on =
-    let both = and_parts (step_eq s t) (begins p q) on in
-    let rest = value_bars p q d both.1 in
-    (rw (both.0) rest.0, rw (turn_eq t s, both.0) rest.1)
+value_bars (s ∷ p) (t ∷ q) d on = grind (arith, turn_eq t s, value_bars p q d)
 
 -- two mentions, of which one has a value and the other none, do not bar each other
 not_both : {ms : List Mention} (m n : Mention) (d : Data) → m.value ≡ Some d → n.value ≡ None → Peace ms → Among m ms

@@ -1,14 +1,9 @@
 -- What holds of what is there, if anything is.
-use Rattle.std.proofs.Common.{◌≡◌, ◌⊎◌, inl, inr, Option, Some, None, refl}
+use Rattle.std.proofs.Common.{◌≡◌, Option, Some, None, refl}
 use Rattle.std.specs.Prelude.{IfSome}
 use Rattle.std.specs.Option.{option_or}
 
 module _ {A : Type 0} where
-  -- something is there, or nothing
-  pub cases_Option : (o : Option A) → (o ≡ None) ⊎ ((x : A) × (o ≡ Some x))
-  cases_Option None = inl refl
-  cases_Option (Some x) = inr (x, refl)
-
   -- what holds of all that may be there
   pub if_there : (o : Option A) {P : A → Type 0} → ((x : A) → o ≡ Some x → P x) → IfSome o P
   if_there None so = tt

@@ -1,4 +1,4 @@
-use Rattle.std.proofs.Common.{◌≡◌, ap, sym, ◌∙◌, refl, rules, true}
+use Rattle.std.proofs.Common.{◌≡◌, ap, sym, ◌∙◌, rules, true}
 use Rattle.basic_toml_read.specs.declared.section.Raw as raws
 use Rattle.basic_toml_plain.specs.Plain.{is_plain, are_few_simple}
 use Rattle.basic_toml_plain.proofs.PlainValues.{table_within}
@@ -23,11 +23,8 @@ returns-in-Section-clause-data c =
     rw (c.in-Item.is, c.in-Section.is, c.rows-in-Section.ensures.rows)
     (section_rows c.in-Section.table c.rows-in-Section.ensures.plain)
 
-pub returns-in-Table-Section : goal.returns-in-Table-Section
-returns-in-Table-Section c =
+pub returns-in-Table-Section-clause-data : goal.returns-in-Table-Section-clause-data
+returns-in-Table-Section-clause-data c =
     let t = c.in-Table-Section.table in
     let here : c.args.self.spot ≡ spots.Table (tables.Section c.in-Table-Section.table) = search rules in
-    record {
-      «data» = rw here (section_table_data t.section t.rows.now t.simple);
-      fields = (rw here refl, t.simple);
-    }
+    rw here (section_table_data t.section t.rows.now t.simple)
