@@ -144,7 +144,7 @@ count_keeps from node k counts tree p stands sections resolved =
     ∙ rw (before, keys-append p (key k ∷ []), length-append (keys_of p) (k ∷ [])) refl
 
 -- and where a row put what is there
-any_count : (spot : Spot) (count : ℕ) → (count == 0) ≡ false → spot_is_made 1 spot ≡ spot_is_made count spot
+pub any_count : (spot : Spot) (count : ℕ) → (count == 0) ≡ false → spot_is_made 1 spot ≡ spot_is_made count spot
 any_count (spots.Table b) count some = rw some refl
 any_count spot count some = refl
 

@@ -1,4 +1,5 @@
 -- What headers made, as the tree has it and as the section list foretells it.
+use Rattle.std.proofs.Common.{arith}
 use Rattle.std.proofs.Common.{◌≡◌, inl, inr, ◌==◌, ℕ, Bool, true, false, List, [], ◌∷◌, Option, Some, refl, ap}
 use Rattle.std.proofs.Common.{sym, ◌∙◌, map, codes}
 use Rattle.std.specs.Prelude.{◌||◌, if◌then◌else◌}
@@ -74,13 +75,7 @@ pub record IsMade (count : ℕ) (spot : Spot) : Type 0 where
 item_made : (count : ℕ) (b : Bor Item) (x : Item-F Item Child Table) (o : Option Standing) → out-Item b.now ≡ x
     → item_standing x o → standing (item_trie b.now) ≡ o → is_wrapper x ≡ false → stands_made o ≡ true
     → IsMade count (spots.Item b)
-item_made count b (Item-F.Tables tables) o is stands same own made =
-    record { made = rw is refl; name = rw (is, same, stands) refl; slice = rw is refl }
-item_made count b (Item-F.Sections tables) o is stands same own made =
-    record { made = rw is refl; name = rw (is, same, stands) refl; slice = rw is refl }
-item_made count b (Item-F.Table t) o is stands same own made = cc
-item_made count b (Item-F.Section z) o is stands same own made = cc
-item_made count b x o is stands same own made = absurd (false≢true (sym (ap stands_made stands) ∙ made))
+item_made count b x o is stands same own made = grind arith
 
 table_made : (count : ℕ) (b : HeaderTable)
     → ((count == 0) || stands_made (standing (table_trie (table_of b)))) ≡ true
@@ -100,9 +95,7 @@ spot_made count (spots.Plain b) own made = absurd (false≢true made)
 
 not_table : (x : Item-F Item Child Table) (o : Option Standing) → item_standing x o → is_wrapper x ≡ false
     → (p n d : Bool) → o ≡ Some (table p n d) → ⊥
-not_table (Item-F.Tables tables) o stands own p n d is = absurd (false≢true (sym (ap stands_array is) ∙ stands))
-not_table (Item-F.Sections tables) o stands own p n d is = absurd (false≢true (sym (ap stands_array is) ∙ stands))
-not_table x o stands own p n d is = absurd (cc)
+not_table x o stands own p n d is = grind arith
 
 pub root_made : (count : ℕ) (spot : Spot) (t : Table) → wraps_table spot ≡ false → (count == 0) ≡ true
     → spot_trie spot ≡ table_trie t → IsMade count spot

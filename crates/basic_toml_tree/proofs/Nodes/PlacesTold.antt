@@ -1,5 +1,6 @@
 -- The offset that names a node in errors, by the section list: where the node begins, but for an array the outer
 -- offset.
+use Rattle.std.proofs.Common.{arith}
 use Rattle.std.proofs.Common.{◌≡◌, ◌⊎◌, inl, inr, ℕ, Bool, true, false, List, [], ◌∷◌, Option, refl, ap}
 use Rattle.std.proofs.Common.{sym, ◌∙◌, rules, codes, ◌++◌}
 use Rattle.std.specs.Prelude.{IfSome}
@@ -17,16 +18,11 @@ use Rattle.basic_toml_read.specs.declared.section.Element.{Element}
 use Rattle.basic_toml_read.specs.declared.section.Row.{Row}
 use Rattle.basic_toml_read.specs.declared.section.Rows as code_rows
 use Rattle.basic_toml_read.specs.SectionView.{raw_of}
-use Rattle.std.proofs.lemmas.Bool.{false≢true}
-use Rattle.basic_toml_grow.specs.declared.item.Item.{Item, out-Item}
-use Rattle.basic_toml_grow.specs.declared.item.Item.TheOpen.{Item-F}
-use Rattle.basic_toml_grow.specs.declared.item.Child.{Child}
-use Rattle.basic_toml_grow.specs.declared.item.Table.{Table}
 use Rattle.basic_toml_tree.specs.declared.node.Node as nodes
 use Rattle.basic_toml_tree.specs.declared.spot.Spot.{Spot}
 use Rattle.basic_toml_tree.specs.declared.spot.Spot.TheVariants as spots
-use Rattle.basic_toml_tree.specs.Origin.{is_array_literal, item_name, spot_name, spot_is_made, holds_tables, start_of}
-use Rattle.basic_toml_tree.specs.Origin.{outer_of, offset_of, item_is_literal, raw_is_array, last_at as tree_last}
+use Rattle.basic_toml_tree.specs.Origin.{is_array_literal, spot_name, spot_is_made, start_of}
+use Rattle.basic_toml_tree.specs.Origin.{outer_of, offset_of, raw_is_array, last_at as tree_last}
 use Rattle.basic_toml_tree.proofs.Nodes.NodesOfValues.{one_of, in_value}
 use Rattle.basic_toml_tree.proofs.Nodes.RowNodesTold.{RowTold}
 use Rattle.basic_toml_tree.proofs.Nodes.WhatIsThere.{or_some}
@@ -68,13 +64,7 @@ plain_at sections p not = rw not (sections_plain (located sections) (last_at sec
 literal_name : (count : ℕ) (spot : Spot) → spot_is_made count spot ≡ false
     → names_array (spot_name count spot) ≡ is_array_literal spot
 literal_name count (spots.Table b) not = rw not refl
-literal_name count (spots.Item b) not = go (out-Item b.now) not
-  where
-    go : (x : Item-F Item Child Table) → holds_tables x ≡ false
-        → names_array (item_name x) ≡ item_is_literal x
-    go (Item-F.Tables y) not = absurd (false≢true (sym not))
-    go (Item-F.Sections y) not = absurd (false≢true (sym not))
-    go x not = refl
+literal_name count (spots.Item b) not = grind arith
 literal_name count (spots.Plain b) not =
     ap (λ v. names_array (raw_name (raw_of v))) (sym (raws.roll-out-Raw b.value.now)) ∙ go (raws.out-Raw b.value.now)
   where
