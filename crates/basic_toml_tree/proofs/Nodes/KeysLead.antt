@@ -1,6 +1,6 @@
--- Headers that begin with keys.
-use Rattle.std.proofs.Common.{◌≡◌, ◌⊎◌, inl, inr, ◌<◌, ℕ, true, false, List, [], ◌∷◌, ◌++◌, length, map}
-use Rattle.std.proofs.Common.{take, Some, refl, ap, sym, ◌∙◌, get_or}
+-- What a node keeps of the keys of headers and rows that lead to it.
+use Rattle.std.proofs.Common.{arith, ◌≡◌, ◌⊎◌, inl, inr, ◌<◌, ℕ, true, false, List, [], ◌∷◌, ◌++◌, length, map, take}
+use Rattle.std.proofs.Common.{Some, refl, ap, sym, ◌∙◌, get_or}
 use Rattle.std.specs.Prelude.{slice_get, IfSome}
 use Rattle.std.proofs.lemmas.List.{length-map, get_or-take}
 use Rattle.std.proofs.lemmas.Option.{IfSome_then, get_or_from_slice_get}
@@ -17,8 +17,7 @@ use Rattle.basic_toml_tree.specs.Resolve.{IsResolved}
 use Rattle.basic_toml_tree.specs.Stands.{StandsAt, IsBeside, tree_origins}
 use Rattle.basic_toml_tree.specs.declared.node.Node.{Node}
 use Rattle.basic_toml_tree.specs.declared.spot.Spot.{Spot}
-use Rattle.basic_toml_tree.specs.declared.trail.Trail.{Trail}
-use Rattle.basic_toml_tree.specs.declared.trail.Trail.TheVariants.{Header, Row}
+use Rattle.basic_toml_tree.specs.declared.trail.Trail.TheVariants.{Header}
 use Rattle.basic_toml_tree.proofs.HeadersMake.{any_of, of_any}
 use Rattle.basic_toml_tree.proofs.Nodes.NodesInOrder.{mapped_read, read_mapped}
 use Rattle.basic_toml_tree.proofs.Origins.RowsAreNodes.{begins_front}
@@ -84,11 +83,7 @@ last_step p q s t r same = elim (compare p (s ∷ []) q (t ∷ r) same) [ inl on
 -- a node that hands on what is kept keeps the same row
 row_on : (from node : Node) → HandsOn from node.trail → (tree : Tree) (n : ℕ) (keys : KeyTexts) (k : List ℕ)
     → KeepsRow tree n keys k from.trail → KeepsRow tree n keys k node.trail
-row_on from node hands tree n keys k kept = go from.trail refl kept
-  where
-    go : (t : Trail) → from.trail ≡ t → KeepsRow tree n keys k t → KeepsRow tree n keys k node.trail
-    go (Header m) is kept = absurd kept
-    go (Row m first) is kept = rw (hands m first is, is) kept
+row_on from node hands tree n keys k kept = grind arith
 
 -- one step on from a table that headers made, the row is kept that put there what is there
 abbrev pub BeginsAt : Tree → Path → Step → Node → Type 0

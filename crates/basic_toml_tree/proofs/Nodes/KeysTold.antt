@@ -21,7 +21,6 @@ use Rattle.basic_toml_grow.specs.declared.item.Table.{Table, out-Table}
 use Rattle.basic_toml_tree.specs.declared.spot.Spot.{Spot}
 use Rattle.basic_toml_tree.specs.declared.spot.Spot.TheVariants as spots
 use Rattle.basic_toml_tree.specs.declared.trail.Trail.{Trail}
-use Rattle.basic_toml_tree.specs.declared.trail.Trail.TheVariants.{Header, Row}
 use Rattle.basic_toml_grow.specs.Origins.{Origin, Origins, child_origins}
 use Rattle.basic_toml_tree.proofs.Nodes.NodesCome.{child_bears}
 use Rattle.basic_toml_tree.proofs.Nodes.RowKeys.{GivenBy, sections_give}
@@ -198,8 +197,7 @@ key_after (number n ∷ w) y r others k l same = key_after w y r others k l same
 row_keys : (tree : Tree) (n count : ℕ) (keys : KeyTexts) (k : List ℕ) (trail : Trail) → KeepsRow tree n keys k trail
     → trail_keys tree.headers count trail
     ≡ header_at tree n ++ get_or keys (length (header_at tree n)) k ∷ []
-row_keys tree n count keys k (Header m) kept = absurd kept
-row_keys tree n count keys k (Row m first) kept = rw (kept.0, kept.1) refl
+row_keys tree n count keys k trail kept = grind arith
 
 -- the last that headers made on the way to a path, and the step on from it
 record LastMade (ls : List Located) (p : Path) : Type 0 where

@@ -1,8 +1,7 @@
 -- The rows of values and of section lists, as lines: no line meets another one, and what is told of the nodes in their
 -- values.
-use Rattle.std.proofs.Common.{arith}
-use Rattle.std.proofs.Common.{◌≡◌, ℕ, zero, suc, true, false, List, [], ◌∷◌, ◌++◌, Option}
-use Rattle.std.proofs.Common.{Some, refl, sym, ◌∙◌, inl, inr}
+use Rattle.std.proofs.Common.{arith, ◌≡◌, ℕ, zero, suc, true, false, List, [], ◌∷◌, ◌++◌, Option, Some, refl, sym, ◌∙◌}
+use Rattle.std.proofs.Common.{inl, inr}
 use Rattle.std.specs.List.{list_any, list_all}
 use Rattle.std.proofs.lemmas.Bool.{false≢true, and_parts, or_parts, false_from_ne_true, cases_Bool}
 use Rattle.basic_toml_value.specs.Data.{Data}
@@ -19,8 +18,8 @@ use Rattle.basic_toml_grammar.specs.Tree.{Mention}
 use Rattle.basic_toml_grammar.proofs.Clash.ClashesAgree.{turn_eq}
 use Rattle.basic_toml_grammar.proofs.Nesting.TreeIsAsDeepAsMentions.{bars, barred_by, mention, Peace}
 use Rattle.basic_toml_tree.specs.Outer.{no_keys, around}
-use Rattle.basic_toml_tree.proofs.Nodes.Lines.{begun, keys_end, Line, path_of, choose, start_among, Sound}
-use Rattle.basic_toml_tree.proofs.Nodes.Lines.{meets, Apart, OuterOf, ValueOuter, Found, within, by_rows, found}
+use Rattle.basic_toml_tree.proofs.Nodes.Lines.{begun, keys_end, Line, path_of, choose, start_among, Sound, meets, Apart}
+use Rattle.basic_toml_tree.proofs.Nodes.Lines.{OuterOf, ValueOuter, Found, within, by_rows, found}
 
 -- rows below a path, each with the key path that its nodes have
 abbrev pub lines_of : Path → (List Key → KeyTexts) → Rows → List Line

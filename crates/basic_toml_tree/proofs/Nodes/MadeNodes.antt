@@ -1,6 +1,5 @@
 -- What headers made, as the tree has it and as the section list foretells it.
-use Rattle.std.proofs.Common.{arith}
-use Rattle.std.proofs.Common.{◌≡◌, inl, inr, ◌==◌, ℕ, Bool, true, false, List, [], ◌∷◌, Option, Some, refl, ap}
+use Rattle.std.proofs.Common.{arith, ◌≡◌, inl, inr, ◌==◌, ℕ, Bool, true, false, List, [], ◌∷◌, Option, refl, ap}
 use Rattle.std.proofs.Common.{sym, ◌∙◌, map, codes}
 use Rattle.std.specs.Prelude.{◌||◌, if◌then◌else◌}
 use Rattle.std.specs.Borrow.{Bor}
@@ -8,7 +7,7 @@ use Rattle.std.proofs.lemmas.Bool.{false≢true, or_left, or_right}
 use Rattle.basic_toml_grammar.specs.Sections.{Section}
 use Rattle.basic_toml_grammar.specs.Steps.{Path}
 use Rattle.basic_toml_grammar.specs.IndexedPath.{located}
-use Rattle.basic_toml_grammar.specs.Standing.{Standing, table}
+use Rattle.basic_toml_grammar.specs.Standing.{Standing}
 use Rattle.basic_toml_grammar.specs.Trie.{Trie, nothing, standing, below}
 use Rattle.basic_toml_grammar.specs.Nodes as grammar
 use Rattle.basic_toml_grammar.proofs.Tries.MarksInATrie.{descend, standing_of}
@@ -16,7 +15,7 @@ use Rattle.basic_toml_grammar.proofs.Tries.SectionsInATrie.{marks_put}
 use Rattle.basic_toml_grow.specs.declared.item.Item.{Item, out-Item}
 use Rattle.basic_toml_grow.specs.declared.item.Item.TheOpen.{Item-F}
 use Rattle.basic_toml_grow.specs.declared.item.Child.{Child}
-use Rattle.basic_toml_grow.specs.declared.item.Table.{Table, out-Table}
+use Rattle.basic_toml_grow.specs.declared.item.Table.{Table}
 use Rattle.basic_toml_tree.specs.declared.node.Node.{Node}
 use Rattle.basic_toml_tree.specs.declared.spot.HeaderTable.{HeaderTable}
 use Rattle.basic_toml_tree.specs.declared.spot.Spot.{Spot}
@@ -93,19 +92,11 @@ spot_made count (spots.Item b) own made =
     item_made count b (out-Item b.now) (standing (item_trie b.now)) refl (standing_here b.now) refl own made
 spot_made count (spots.Plain b) own made = absurd (false≢true made)
 
-not_table : (x : Item-F Item Child Table) (o : Option Standing) → item_standing x o → is_wrapper x ≡ false
-    → (p n d : Bool) → o ≡ Some (table p n d) → ⊥
-not_table x o stands own p n d is = grind arith
-
 pub root_made : (count : ℕ) (spot : Spot) (t : Table) → wraps_table spot ≡ false → (count == 0) ≡ true
     → spot_trie spot ≡ table_trie t → IsMade count spot
 root_made count (spots.Table b) t own none same = table_made count b (or_left _ _ none)
-root_made count (spots.Item b) t own none same =
-    absurd (not_table (out-Item b.now) (standing (item_trie b.now)) (standing_here b.now) own
-    (out-Table t).passed (out-Table t).named (out-Table t).dotted
-    (ap standing same ∙ ap standing (table_entries_trie t)))
-root_made count (spots.Plain b) t own none same =
-    let bad = ap standing same ∙ ap standing (table_entries_trie t) in absurd (cc)
+root_made count (spots.Item b) t own none same = grind (arith, standing_here b.now, table_entries_trie t)
+root_made count (spots.Plain b) t own none same = grind (arith, table_entries_trie t)
 
 -- a node that stands at the root of a tree, and where the trie of the tree has what headers made
 module _ (tree : Tree) (node : Node) (p : Path) (stands : StandsAt tree p node) where

@@ -1,6 +1,6 @@
 -- A node comes from what the origins in the tree tell at its path.
-use Rattle.std.proofs.Common.{inl, inr, ◌≡◌, ◌==◌, ℕ, true, false, List, [], ◌∷◌, ◌++◌, Option, Some, refl, ap}
-use Rattle.std.proofs.Common.{sym, ◌∙◌, subst, rules, append_assoc}
+use Rattle.std.proofs.Common.{inl, inr, ◌≡◌, ◌==◌, ℕ, true, false, List, [], ◌∷◌, ◌++◌, Option, Some, refl, ap, sym}
+use Rattle.std.proofs.Common.{◌∙◌, subst, rules, append_assoc}
 use Rattle.std.specs.Prelude.{IfSome, if◌then◌else◌}
 use Rattle.std.specs.Borrow.{Bor}
 use Rattle.std.proofs.Math.Path.{fun_ext}
@@ -10,9 +10,8 @@ use Rattle.basic_toml_grammar.specs.Steps.{Step, key, Path}
 use Rattle.basic_toml_grow.specs.declared.item.Item.{Item, out-Item, the_lemmas}
 use Rattle.basic_toml_grow.specs.declared.item.Item.TheOpen.{Item-F}
 use Rattle.basic_toml_grow.specs.declared.item.Item.TheViews.{roll-Item}
-use Rattle.basic_toml_grow.specs.Origins.{Origin, Origins}
-use Rattle.basic_toml_grow.specs.Origins.{table_origin, array_origin}
-use Rattle.basic_toml_grow.specs.Origins.{item_origins, child_origins, of_table, section_in, table_within}
+use Rattle.basic_toml_grow.specs.Origins.{Origin, Origins, table_origin, array_origin, item_origins, child_origins}
+use Rattle.basic_toml_grow.specs.Origins.{of_table, section_in, table_within}
 use Rattle.basic_toml_grow.specs.declared.item.Child.{Child, out-Child}
 use Rattle.basic_toml_grow.specs.declared.item.Table.{Table, out-Table}
 use Rattle.basic_toml_tree.specs.declared.tree.Tree.{Tree}
@@ -22,11 +21,11 @@ use Rattle.basic_toml_tree.specs.declared.spot.Spot.{Spot}
 use Rattle.basic_toml_tree.specs.declared.spot.Spot.TheVariants as spots
 use Rattle.basic_toml_tree.specs.HeaderTables.{table_of}
 use Rattle.basic_toml_tree.specs.Origin.{holds_tables, item_name, item_section, table_is_made, holds_string}
-use Rattle.basic_toml_tree.specs.Stands.{ItemHolds, HoldsTable, spot_origins, node_origins, SpotComes}
-use Rattle.basic_toml_tree.specs.Stands.{ComesFrom, tree_origins}
+use Rattle.basic_toml_tree.specs.Stands.{ItemHolds, HoldsTable, spot_origins, node_origins, SpotComes, ComesFrom}
+use Rattle.basic_toml_tree.specs.Stands.{tree_origins}
 use Rattle.basic_toml_grow.proofs.ItemsStand.{shape}
-use Rattle.basic_toml_grow.proofs.Origins.OriginsSeen.{child_seen, made_seen, section_seen, table_origins}
-use Rattle.basic_toml_grow.proofs.Origins.OriginsSeen.{seen_at_key, seen_at_none}
+use Rattle.basic_toml_grow.proofs.Origins.OriginsSeen.{child_seen, made_seen, section_seen, table_origins, seen_at_key}
+use Rattle.basic_toml_grow.proofs.Origins.OriginsSeen.{seen_at_none}
 
 -- what tells the same at each path
 pub comes_alike : {f g : Origins} {count : ℕ} {spot : Spot} {at : ℕ} → ((q : Path) → f q ≡ g q)

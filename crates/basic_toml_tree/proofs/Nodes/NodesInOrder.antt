@@ -1,7 +1,6 @@
 -- The elements of an array and the entries of a table, one after another.
-use Rattle.std.proofs.Common.{arith}
-use Rattle.std.proofs.Common.{◌≡◌, ℕ, zero, suc, ◌+◌, ◌<◌, List, [], ◌∷◌, ◌++◌, length, drop, map, Some, refl, ap}
-use Rattle.std.proofs.Common.{◌∙◌, sym, get_or, IsTrue, Vec, Box, Global, option_map}
+use Rattle.std.proofs.Common.{arith, ◌≡◌, ℕ, zero, suc, ◌+◌, ◌<◌, List, [], ◌∷◌, ◌++◌, length, drop, map, Some, refl}
+use Rattle.std.proofs.Common.{ap, ◌∙◌, sym, get_or, IsTrue, Vec, Box, Global, option_map}
 use Rattle.std.specs.Prelude.{slice_get}
 use Rattle.std.proofs.lemmas.List.{drop_more, map-append}
 use Rattle.std.proofs.lemmas.Simd.{map-map}

@@ -1,10 +1,22 @@
--- What holds of each value and of each dotted table holds of every node in a value.
-use Rattle.std.proofs.Common.{◌≡◌, ℕ, zero, suc, Bool, true, false, [], ◌∷◌, Option, Some, refl}
-use Rattle.std.specs.Prelude.{if◌then◌else◌, IfSome}
+-- What holds of what is there, if anything is. What holds of each value and of each dotted table holds of every node in
+-- a value.
+use Rattle.std.proofs.Common.{◌≡◌, Option, Some, None, refl, ℕ, zero, suc, Bool, true, false, [], ◌∷◌}
+use Rattle.std.specs.Prelude.{IfSome, if◌then◌else◌}
+use Rattle.std.specs.Option.{option_or}
 use Rattle.basic_toml_grammar.specs.Sections.{KeyTexts, texts, Raw, Elements, no_elements, element, Rows, no_rows, row}
 use Rattle.basic_toml_grammar.specs.Steps.{key, number, Path, begins, steps_of}
-use Rattle.basic_toml_grammar.specs.Nodes.{Node, value_node, dotted_node, node_in, node_among}
-use Rattle.basic_toml_grammar.specs.Nodes.{node_by}
+use Rattle.basic_toml_grammar.specs.Nodes.{Node, value_node, dotted_node, node_in, node_among, node_by}
+
+module _ {A : Type 0} where
+  -- what holds of all that may be there
+  pub if_there : (o : Option A) {P : A → Type 0} → ((x : A) → o ≡ Some x → P x) → IfSome o P
+  if_there None so = tt
+  if_there (Some x) so = so x refl
+
+  -- of the first of two
+  pub or_some : (m n : Option A) (P : A → Type 0) → IfSome m P → IfSome n P → IfSome (option_or m n) P
+  or_some None n P first later = later
+  or_some (Some x) n P first later = first
 
 -- one of three, each where it is chosen
 pub one_of : (a b : Bool) {d : Node} (m n : Option Node) (P : Node → Type 0) → (a ≡ true → IfSome m P)

@@ -18,7 +18,7 @@ use Rattle.basic_toml_tree.proofs.Nodes.MadeNodes.{made_in_trie, last_same}
 use Rattle.basic_toml_tree.proofs.Nodes.OuterNodes.{OuterBegins, outer_begins}
 use Rattle.basic_toml_tree.proofs.Nodes.RowNodesTold.{RowTold, no_clash, row_told, rows_free, rows_keyed, some_both}
 use Rattle.basic_toml_tree.proofs.Nodes.RowNodesTold.{told_same}
-use Rattle.basic_toml_tree.proofs.Nodes.WhatIsThere.{if_there}
+use Rattle.basic_toml_tree.proofs.Nodes.NodesOfValues.{if_there}
 use Rattle.basic_toml_tree.proofs.Origins.RowsAreNodes.{Same, of_node, of_origin}
 
 -- where a row begins, and that it is kept

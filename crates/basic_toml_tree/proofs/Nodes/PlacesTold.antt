@@ -1,8 +1,7 @@
 -- The offset that names a node in errors, by the section list: where the node begins, but for an array the outer
 -- offset.
-use Rattle.std.proofs.Common.{arith}
-use Rattle.std.proofs.Common.{◌≡◌, ◌⊎◌, inl, inr, ℕ, Bool, true, false, List, [], ◌∷◌, Option, refl, ap}
-use Rattle.std.proofs.Common.{sym, ◌∙◌, rules, codes, ◌++◌}
+use Rattle.std.proofs.Common.{arith, ◌≡◌, ◌⊎◌, inl, inr, ℕ, Bool, true, false, List, [], ◌∷◌, Option, refl, ap, sym}
+use Rattle.std.proofs.Common.{◌∙◌, rules, codes, ◌++◌}
 use Rattle.std.specs.Prelude.{IfSome}
 use Rattle.std.specs.Option.{option_or}
 use Rattle.std.specs.Str.{bytes_eq}
@@ -10,8 +9,8 @@ use Rattle.basic_toml_grammar.specs.Sections.{KeyTexts, texts, Raw, Rows, no_row
 use Rattle.basic_toml_grammar.specs.Steps.{Path, begins, steps_of}
 use Rattle.basic_toml_grammar.specs.IndexedPath.{Located, located}
 use Rattle.basic_toml_grammar.specs.NamedClash.{first_key}
-use Rattle.basic_toml_grammar.specs.Nodes.{Node, value_node}
-use Rattle.basic_toml_grammar.specs.Nodes.{node_of_rows, node_of_sections, node_at, is_made, last_at, raw_name}
+use Rattle.basic_toml_grammar.specs.Nodes.{Node, value_node, node_of_rows, node_of_sections, node_at, is_made, last_at}
+use Rattle.basic_toml_grammar.specs.Nodes.{raw_name}
 use Rattle.basic_toml_read.specs.declared.section.Raw as raws
 use Rattle.basic_toml_read.specs.declared.section.Raw.TheOpen.{Raw-F}
 use Rattle.basic_toml_read.specs.declared.section.Element.{Element}
@@ -21,11 +20,10 @@ use Rattle.basic_toml_read.specs.SectionView.{raw_of}
 use Rattle.basic_toml_tree.specs.declared.node.Node as nodes
 use Rattle.basic_toml_tree.specs.declared.spot.Spot.{Spot}
 use Rattle.basic_toml_tree.specs.declared.spot.Spot.TheVariants as spots
-use Rattle.basic_toml_tree.specs.Origin.{is_array_literal, spot_name, spot_is_made, start_of}
-use Rattle.basic_toml_tree.specs.Origin.{outer_of, offset_of, raw_is_array, last_at as tree_last}
-use Rattle.basic_toml_tree.proofs.Nodes.NodesOfValues.{one_of, in_value}
+use Rattle.basic_toml_tree.specs.Origin.{is_array_literal, spot_name, spot_is_made, start_of, outer_of, offset_of}
+use Rattle.basic_toml_tree.specs.Origin.{raw_is_array, last_at as tree_last}
+use Rattle.basic_toml_tree.proofs.Nodes.NodesOfValues.{one_of, in_value, or_some}
 use Rattle.basic_toml_tree.proofs.Nodes.RowNodesTold.{RowTold}
-use Rattle.basic_toml_tree.proofs.Nodes.WhatIsThere.{or_some}
 
 abbrev names_array : List ℕ → Bool
 names_array name = bytes_eq name (codes "array")

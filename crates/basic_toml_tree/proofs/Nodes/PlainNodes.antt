@@ -1,6 +1,6 @@
 -- The nodes of plain values, and of the elements of arrays of them.
 use Rattle.std.proofs.Common.{◌≡◌, ℕ, false, List, [], ◌∷◌, map, length, Some, refl, sym, ap, ◌∙◌, rules}
-use Rattle.std.specs.Prelude.{slice_get, ◌≤◌, Option, None, IfSome, IfNone, MatchOption, ⊤}
+use Rattle.std.specs.Prelude.{slice_get, ◌≤◌, Option, None, IfSome, IfNone, MatchOption}
 use Rattle.std.proofs.lemmas.List.{length-map}
 use Rattle.basic_toml_grammar.specs.Mentions.{finished, finished_elements}
 use Rattle.basic_toml_grammar.specs.Nodes.{raw_name, raw_is_slice}
@@ -23,7 +23,7 @@ use Rattle.basic_toml_grow.specs.Origins.{value_origins, elements_origins}
 use Rattle.basic_toml_tree.specs.Stands.{SpotComes, ComesFrom, IsPlainElement, spot_origins, node_origins, AtNumber}
 use Rattle.basic_toml_tree.proofs.Nodes.NodesInOrder.{read_mapped}
 use Rattle.basic_toml_tree.proofs.Nodes.NodesCome.{comes_alike}
-use Rattle.basic_toml_tree.proofs.Nodes.WhatIsThere.{all_so}
+use Rattle.basic_toml_tree.proofs.Nodes.NodesOfValues.{if_there}
 
 -- elements, one after another
 datas_placed : (ls : List Placed) → seen.listed (finished_elements (elements_from ls)) ≡ map (λ e. finished e.value) ls
@@ -70,7 +70,7 @@ pub value_comes : (v : PlainValue) (spot : Spot) → spot ≡ spots.Plain v → 
 value_comes v spot is count at s = rw is (record {
   section = s;
   own = rw (← (plain_slice v.value.now)) (own_is (raw_of v.value.now) at s);
-  marked = all_so (value_origins s at (raw_of v.value.now) []) ⊤ tt;
+  marked = if_there (value_origins s at (raw_of v.value.now) []) (λ o is. tt);
   parts = λ r q. refl;
 })
 

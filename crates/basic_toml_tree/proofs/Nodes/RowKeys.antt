@@ -1,6 +1,6 @@
 -- The keys that lead to what rows give: those of the section's header, and the first key of the row.
-use Rattle.std.proofs.Common.{◌≡◌, inl, inr, ℕ, suc, true, false, List, [], ◌∷◌, ◌++◌, Option}
-use Rattle.std.proofs.Common.{Some, refl, ap, sym, ◌∙◌, arith, slice_get}
+use Rattle.std.proofs.Common.{◌≡◌, inl, inr, ℕ, suc, true, false, List, [], ◌∷◌, ◌++◌, Option, Some, refl, ap, sym, ◌∙◌}
+use Rattle.std.proofs.Common.{arith, slice_get}
 use Rattle.std.specs.Prelude.{IfSome, is_some}
 use Rattle.std.specs.List.{list_any, list_all}
 use Rattle.std.proofs.lemmas.Bool.{false≢true, and_parts, or_parts}
@@ -14,9 +14,8 @@ use Rattle.basic_toml_grammar.specs.NamedClash.{first_key}
 use Rattle.basic_toml_grammar.specs.Nodes.{Node, node_of_rows, node_of_sections}
 use Rattle.basic_toml_grammar.proofs.Clash.StepTestsDecide.{step_is}
 use Rattle.basic_toml_grow.specs.Origins.{along, rows_origins}
-use Rattle.basic_toml_tree.proofs.Nodes.NodesOfValues.{one_of, in_value}
+use Rattle.basic_toml_tree.proofs.Nodes.NodesOfValues.{one_of, in_value, if_there, or_some}
 use Rattle.basic_toml_tree.proofs.Nodes.RowNodesTold.{some_both}
-use Rattle.basic_toml_tree.proofs.Nodes.WhatIsThere.{if_there, or_some}
 use Rattle.basic_toml_tree.proofs.Origins.RowsAreNodes.{begins_on, goes_from, rows_apart, section_same}
 
 -- a row below its section's table

@@ -1,7 +1,6 @@
 -- The nodes of the rows of an inline table with plain values.
-use Rattle.std.proofs.Common.{◌≡◌, ◌<◌, ◌≤◌, ◌+◌, inl, ℕ, true, false, List, [], ◌∷◌, ◌++◌}
-use Rattle.std.proofs.Common.{Some, None, map, length, take, drop, get_or, refl, ap, sym, ◌∙◌}
-use Rattle.std.proofs.Common.{arith, rules, IsTrue, Vec, Global}
+use Rattle.std.proofs.Common.{◌≡◌, ◌<◌, ◌≤◌, ◌+◌, inl, ℕ, true, false, List, [], ◌∷◌, ◌++◌, Some, None, map, length}
+use Rattle.std.proofs.Common.{take, drop, get_or, refl, ap, sym, ◌∙◌, arith, rules, IsTrue, Vec, Global}
 use Rattle.std.specs.Prelude.{slice_get}
 use Rattle.std.specs.Borrow.{Bor}
 use Rattle.std.specs.Str.{bytes_eq}
@@ -22,8 +21,7 @@ use Rattle.basic_toml_read.specs.declared.section.Raw.TheOpen.{Raw-F}
 use Rattle.basic_toml_read.specs.declared.section.Element.{Element}
 use Rattle.basic_toml_read.specs.declared.section.Row.{Row, out-Row}
 use Rattle.basic_toml_read.specs.declared.section.Rows as code_rows
-use Rattle.basic_toml_plain.specs.Plain.{key_of, are_few_simple, plain_data, plain_table}
-use Rattle.basic_toml_plain.specs.Plain.{rows_data}
+use Rattle.basic_toml_plain.specs.Plain.{key_of, are_few_simple, plain_data, plain_table, rows_data}
 use Rattle.basic_toml_plain.specs.Tries.{leaf}
 use Rattle.basic_toml_plain.specs.Values.{row_pair}
 use Rattle.basic_toml_plain.proofs.RowsData.{few_data, row_keys}
@@ -38,12 +36,10 @@ use Rattle.basic_toml_grow.proofs.SectionTables.{entries_are, row_child_origins,
 use Rattle.basic_toml_grow.specs.Simple.{child_of, entries_of, section_table}
 use Rattle.basic_toml_tree.proofs.ItemData.{data_at_absent, data_at_found}
 use Rattle.basic_toml_tree.proofs.SectionData.{section_table_data}
-use Rattle.basic_toml_tree.specs.Nodes.{node_data, spot_data, data_at, entries_in, entries_left}
-use Rattle.basic_toml_tree.specs.Nodes.{key_and_data}
+use Rattle.basic_toml_tree.specs.Nodes.{node_data, spot_data, data_at, entries_in, entries_left, key_and_data}
 use Rattle.basic_toml_tree.specs.Origin.{spot_is_made, holds_tables}
-use Rattle.basic_toml_tree.specs.Stands.{AtKey, ComesFrom, HoldsRows, ItemRows, RawRows, IsPlainRow, StandsAt}
-use Rattle.basic_toml_tree.specs.Stands.{StandsOn, spot_trie, spot_origins, node_origins}
-use Rattle.basic_toml_tree.specs.Stands.{is_wrapper, wraps_table, GivesEntry}
+use Rattle.basic_toml_tree.specs.Stands.{AtKey, ComesFrom, HoldsRows, ItemRows, RawRows, IsPlainRow, StandsAt, StandsOn}
+use Rattle.basic_toml_tree.specs.Stands.{spot_trie, spot_origins, node_origins, is_wrapper, wraps_table, GivesEntry}
 use Rattle.basic_toml_tree.specs.declared.entries.Entries.{Entries}
 use Rattle.basic_toml_tree.specs.declared.node.Node.{Node}
 use Rattle.basic_toml_tree.specs.declared.plain_value.PlainValue.{PlainValue}
@@ -59,7 +55,7 @@ use Rattle.basic_toml_tree.proofs.Nodes.NodesInOrder.{drop_next, paired-members,
 use Rattle.basic_toml_tree.proofs.Nodes.NodesStand.{GivenAt, further, stands_on}
 use Rattle.basic_toml_tree.proofs.Nodes.OuterStands.{keeps_below}
 use Rattle.basic_toml_tree.proofs.Nodes.PlainNodes.{value_comes}
-use Rattle.basic_toml_tree.proofs.Nodes.SectionNodes.{plain_read, rows_differ, section_at, section_row_data}
+use Rattle.basic_toml_tree.proofs.Nodes.EntryNodes.{plain_read, rows_differ, section_at, section_row_data}
 
 -- none of the rows up to a position has a key
 pub none_passed : (rs : List Row) (n : ℕ) (r : Row) (k : List ℕ) → n < length rs → r ≡ get_or rs n r

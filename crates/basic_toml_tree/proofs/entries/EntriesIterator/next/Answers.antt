@@ -9,7 +9,7 @@ use Rattle.basic_toml_tree.proofs.Nodes.NodesInOrder.{pair_read, table_entries}
 use Rattle.basic_toml_tree.proofs.Nodes.EntryNodes.{entry_at, entry_stands}
 use Rattle.basic_toml_tree.proofs.Nodes.RowNodes.{row_node_data, row_stands, none_left, no_row_left}
 use Rattle.basic_toml_tree.proofs.Nodes.RowNodes.{gives_row, gives_next}
-use Rattle.basic_toml_tree.proofs.Nodes.SectionNodes.{plain_read, section_row_data, section_row_stands}
+use Rattle.basic_toml_tree.proofs.Nodes.EntryNodes.{plain_read, section_row_data, section_row_stands}
 use Rattle.basic_toml_tree.proofs.entries.EntriesIterator.next.Goals as goal
 
 pub returns-then-at-len-clause-steps : goal.returns-then-at-len-clause-steps

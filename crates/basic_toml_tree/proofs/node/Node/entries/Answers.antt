@@ -2,7 +2,7 @@ use Rattle.std.proofs.Common.{ap, ◌∙◌, refl}
 use Rattle.basic_toml_tree.specs.Nodes.{node_data, is_table}
 use Rattle.basic_toml_tree.proofs.InlineTables.{rows_are_table}
 use Rattle.basic_toml_tree.proofs.Nodes.RowNodes.{entries_differ}
-use Rattle.basic_toml_tree.proofs.Nodes.SectionNodes.{has_rows}
+use Rattle.basic_toml_tree.proofs.Nodes.EntryNodes.{has_rows}
 use Rattle.basic_toml_tree.proofs.node.Node.entries.Goals as goal
 
 pub returns-in-Rows : goal.returns-in-Rows

@@ -3,9 +3,8 @@ use Rattle.basic_toml_tree.specs.Data.{table_data}
 use Rattle.basic_toml_tree.specs.Nodes.{node_data}
 use Rattle.basic_toml_tree.specs.Stands.{HoldsTable}
 use Rattle.basic_toml_tree.proofs.ItemData.{data_at_absent}
-use Rattle.basic_toml_tree.proofs.Nodes.EntryNodes.{entry_given}
+use Rattle.basic_toml_tree.proofs.Nodes.EntryNodes.{entry_given, plain_read, section_found}
 use Rattle.basic_toml_tree.proofs.Nodes.RowNodes.{key_absent, row_given}
-use Rattle.basic_toml_tree.proofs.Nodes.SectionNodes.{plain_read, section_found}
 use Rattle.basic_toml_tree.proofs.node.Node.get.Goals as goal
 
 pub returns-in_default-clause-data : goal.returns-in_default-clause-data
