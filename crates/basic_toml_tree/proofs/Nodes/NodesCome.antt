@@ -1,19 +1,18 @@
 -- A node comes from what the origins in the tree tell at its path.
-use Rattle.std.proofs.Common.{inl, inr, ◌≡◌, ◌==◌, ℕ, true, false, List, [], ◌∷◌, ◌++◌, Option, Some, refl, ap, sym}
+use Rattle.std.proofs.Common.{inl, inr, ◌≡◌, ◌==◌, ℕ, true, false, [], ◌∷◌, ◌++◌, Option, Some, refl, ap, sym}
 use Rattle.std.proofs.Common.{◌∙◌, subst, rules, append_assoc}
 use Rattle.std.specs.Prelude.{IfSome, if◌then◌else◌}
 use Rattle.std.specs.Borrow.{Bor}
 use Rattle.std.proofs.Math.Path.{fun_ext}
 use Rattle.std.proofs.lemmas.Bool.{false≢true, cases_Bool}
-use Rattle.basic_toml_value.specs.Pairs.{value_at}
-use Rattle.basic_toml_grammar.specs.Steps.{Step, key, Path}
+use Rattle.basic_toml_grammar.specs.Steps.{Step, Path}
 use Rattle.basic_toml_grow.specs.declared.item.Item.{Item, out-Item, the_lemmas}
 use Rattle.basic_toml_grow.specs.declared.item.Item.TheOpen.{Item-F}
 use Rattle.basic_toml_grow.specs.declared.item.Item.TheViews.{roll-Item}
 use Rattle.basic_toml_grow.specs.Origins.{Origin, Origins, table_origin, array_origin, item_origins, child_origins}
 use Rattle.basic_toml_grow.specs.Origins.{of_table, section_in, table_within}
 use Rattle.basic_toml_grow.specs.declared.item.Child.{Child, out-Child}
-use Rattle.basic_toml_grow.specs.declared.item.Table.{Table, out-Table}
+use Rattle.basic_toml_grow.specs.declared.item.Table.{Table}
 use Rattle.basic_toml_tree.specs.declared.tree.Tree.{Tree}
 use Rattle.basic_toml_tree.specs.declared.node.Node.{Node}
 use Rattle.basic_toml_tree.specs.declared.spot.HeaderTable.{HeaderTable}
@@ -21,10 +20,10 @@ use Rattle.basic_toml_tree.specs.declared.spot.Spot.{Spot}
 use Rattle.basic_toml_tree.specs.declared.spot.Spot.TheVariants as spots
 use Rattle.basic_toml_tree.specs.HeaderTables.{table_of}
 use Rattle.basic_toml_tree.specs.Origin.{holds_tables, item_name, item_section, table_is_made, holds_string}
-use Rattle.basic_toml_tree.specs.Stands.{ItemHolds, HoldsTable, spot_origins, node_origins, SpotComes, ComesFrom}
+use Rattle.basic_toml_tree.specs.Stands.{node_origins, SpotComes, ComesFrom}
 use Rattle.basic_toml_tree.specs.Stands.{tree_origins}
 use Rattle.basic_toml_grow.proofs.ItemsStand.{shape}
-use Rattle.basic_toml_grow.proofs.Origins.OriginsSeen.{child_seen, made_seen, section_seen, table_origins, seen_at_key}
+use Rattle.basic_toml_grow.proofs.Origins.OriginsSeen.{child_seen, made_seen, section_seen, table_origins}
 use Rattle.basic_toml_grow.proofs.Origins.OriginsSeen.{seen_at_none}
 
 -- what tells the same at each path
@@ -40,27 +39,6 @@ pub comes_on : (from node : Node) (s : Step) (tree : Tree) (p : Path)
     → ComesFrom (λ q. tree_origins tree ((p ++ s ∷ []) ++ q)) node
 comes_on from node s tree p comes on =
     comes_alike (λ q. ap (tree_origins tree) (append_assoc p (s ∷ []) q) ∙ comes.parts s q) (on comes.section)
-
--- at a key of a table
-item_key : (x : Item-F Item Child Table) (i : Item) (t : Table) (k : List ℕ) (q : Path) (at s : ℕ) → out-Item i ≡ x
-    → ItemHolds x t → item_origins i at s (key k ∷ q) ≡ table_origins t (key k ∷ q)
-item_key (Item-F.Table b) i t k q at s is holds =
-    rw (shape i (Item-F.Table b) is, holds) (search (rules, the_lemmas))
-item_key (Item-F.Inline b) i t k q at s is holds =
-    rw (shape i (Item-F.Inline b) is, holds) (search (rules, the_lemmas))
-item_key x i t k q at s is holds = absurd holds
-
-spot_key : (spot : Spot) (t : Table) (k : List ℕ) (q : Path) (at s : ℕ) → HoldsTable spot t
-    → spot_origins spot at s (key k ∷ q) ≡ table_origins t (key k ∷ q)
-spot_key (spots.Table b) t k q at s holds = ap (λ t. table_origins t (key k ∷ q)) (sym holds)
-spot_key (spots.Item b) t k q at s holds = item_key (out-Item b.now) b.now t k q at s refl holds
-spot_key (spots.Plain b) t k q at s holds = absurd holds
-
-pub key_origins : (from : Node) (t : Table) (k : List ℕ) (c : Child) → HoldsTable from.spot t
-    → value_at (out-Table t).entries k ≡ Some c → (s : ℕ) (q : Path)
-    → node_origins s from (key k ∷ q) ≡ child_origins c q
-key_origins from t k c holds found s q =
-    rw (spot_key from.spot t k q from.start s holds, seen_at_key t k q, found) refl
 
 -- the root, of which nothing is told
 pub root_comes : (tree : Tree) (b : HeaderTable) (at : ℕ) → table_of b ≡ tree.root

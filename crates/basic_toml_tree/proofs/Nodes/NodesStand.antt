@@ -3,50 +3,41 @@ use Rattle.std.proofs.Common.{◌≡◌, ◌⊎◌, inl, inr, ◌==◌, ℕ, Boo
 use Rattle.std.proofs.Common.{◌++◌, Some, refl, ap, sym, ◌∙◌, arith, rules, Vec, Global}
 use Rattle.std.specs.Prelude.{slice_get}
 use Rattle.std.specs.Option.{option_and_then}
-use Rattle.std.proofs.lemmas.Slice.Eq.{bytes_eq-Decides}
 use Rattle.std.specs.Borrow.{Bor}
 use Rattle.basic_toml_value.specs.Data.{Data}
-use Rattle.basic_toml_value.specs.Pairs.{value_at}
-use Rattle.basic_toml_index.proofs.DistinctKeys.{bytes_eq-same, bytes_eq_other}
-use Rattle.basic_toml_grammar.specs.Steps.{Step, key, number, Path}
+use Rattle.basic_toml_grammar.specs.Steps.{Step, number, Path}
 use Rattle.basic_toml_grammar.specs.Standing as standing
-use Rattle.basic_toml_grammar.specs.Trie.{Trie, trie, nothing, below, find}
+use Rattle.basic_toml_grammar.specs.Trie.{Trie, trie, nothing, below}
 use Rattle.basic_toml_grammar.specs.Mentions.{finished}
 use Rattle.basic_toml_read.specs.declared.section.Raw as raws
 use Rattle.basic_toml_read.specs.declared.section.Element.{Element}
 use Rattle.basic_toml_read.specs.SectionView.{raw_of}
 use Rattle.basic_toml_read.proofs.ViewsSeen.{array_of}
 use Rattle.basic_toml_plain.specs.Plain.{plain_array}
-use Rattle.basic_toml_plain.specs.Tries.{by_keys, leaf}
-use Rattle.basic_toml_grow.specs.declared.item.Item.{Item, out-Item, the_lemmas, Array, Plain}
-use Rattle.basic_toml_grow.specs.declared.item.Item.TheOpen.{Item-F}
+use Rattle.basic_toml_plain.specs.Tries.{leaf}
+use Rattle.basic_toml_grow.specs.declared.item.Item.{Item, the_lemmas, Array, Plain}
 use Rattle.basic_toml_grow.specs.declared.item.Child.{Child}
-use Rattle.basic_toml_grow.specs.declared.item.Table.{Table, out-Table}
 use Rattle.basic_toml_tree.specs.declared.tree.Tree.{Tree}
 use Rattle.basic_toml_tree.specs.declared.node.Node.{Node}
 use Rattle.basic_toml_tree.specs.declared.plain_value.PlainValue.{PlainValue}
 use Rattle.basic_toml_tree.specs.declared.spot.Spot.{Spot}
 use Rattle.basic_toml_tree.specs.declared.spot.Spot.TheVariants as spots
-use Rattle.basic_toml_grow.specs.Item.{item_trie, child_trie}
-use Rattle.basic_toml_tree.specs.Stands.{trie_at, tree_trie, spot_trie, wraps_table, HoldsTable, is_root}
+use Rattle.basic_toml_tree.specs.Stands.{trie_at, tree_trie, spot_trie, wraps_table, is_root}
 use Rattle.basic_toml_tree.proofs.Nodes.KeysLead.{KeepsKeys, keys_beside}
-use Rattle.basic_toml_tree.specs.Stands.{StandsAt, StandsOn, IsBeside, is_wrapper, ItemHolds, ComesFrom, node_origins}
+use Rattle.basic_toml_tree.specs.Stands.{StandsAt, StandsOn, IsBeside, ComesFrom, node_origins}
 use Rattle.basic_toml_tree.specs.Stands.{AtKey, StartIsKept, IsPlainElement, spot_origins}
 use Rattle.basic_toml_tree.specs.Data.{child_data, table_data}
 use Rattle.basic_toml_tree.specs.Nodes.{node_data, data_at, elements_in}
-use Rattle.basic_toml_tree.specs.HeaderTables.{table_of}
 use Rattle.basic_toml_tree.specs.Outer.{around}
 use Rattle.basic_toml_tree.specs.Paths.{data_by, data_along}
 use Rattle.basic_toml_grow.specs.Origins.{child_origins, value_origins}
 use Rattle.basic_toml_tree.proofs.Nodes.PlainNodes.{element_comes}
 use Rattle.basic_toml_grow.proofs.ItemTries.{table_entries_trie}
 use Rattle.basic_toml_grow.proofs.PlainArrays.{plain_trie}
-use Rattle.basic_toml_grow.proofs.ItemsStand.{shape}
 use Rattle.basic_toml_tree.proofs.Nodes.NodesCome.{comes_alike, comes_on}
 use Rattle.basic_toml_grow.proofs.Origins.OriginsSeen.{array_seen}
 use Rattle.basic_toml_tree.proofs.Nodes.Lines.{around_number}
 use Rattle.basic_toml_tree.proofs.Nodes.NodesInOrder.{array_elements, read_mapped}
-use Rattle.basic_toml_grow.proofs.KeysInATrie.{tries_of}
 
 pub at_more : (p : Path) (s : Step) (t : Trie) → trie_at (p ++ s ∷ []) t ≡ below s (trie_at p t)
 at_more [] s t = refl
@@ -60,34 +51,6 @@ data_more (r ∷ p) s d = grind (arith, data_more p s)
 pub no_root : (p : Path) (s : Step) → is_root (p ++ s ∷ []) ≡ false
 no_root [] s = refl
 no_root (r ∷ p) s = refl
-
--- what is at a key of a table
-find_key : (ps : List (List ℕ × Child)) (k : List ℕ) (c : Child) → value_at ps k ≡ Some c
-    → find (key k) (by_keys (tries_of child_trie ps)) ≡ child_trie c
-unfolding tries_of
-find_key [] k c found = absurd (cc)
-find_key (p ∷ ps) k c found =
-    grind (arith, bytes_eq-Decides k p.0, bytes_eq-same p.0, bytes_eq_other p.0 k, find_key ps k c)
-
-abbrev NothingOr : Step → Trie → Trie → Type 0
-NothingOr s from t = (below s from ≡ nothing) ⊎ (t ≡ below s from)
-
--- at a key of a table, and of a value that a row gives, of which the trie tells nothing more
-item_below : (i : Item) (x : Item-F Item Child Table) (t : Table) (k : List ℕ) (u : Trie) → out-Item i ≡ x
-    → is_wrapper x ≡ false → ItemHolds x t → NothingOr (key k) (item_trie i) u
-item_below i (Item-F.Inline table) t k u is own holds =
-    inl (rw (shape i (Item-F.Inline table) is) (search (rules, the_lemmas)))
-item_below i (Item-F.Table table) t k u is own holds = cc
-item_below i x t k u is own holds = absurd holds
-
-pub spot_below : (spot : Spot) (t : Table) (k : List ℕ) (c : Child) → HoldsTable spot t → wraps_table spot ≡ false
-    → value_at (out-Table t).entries k ≡ Some c → NothingOr (key k) (spot_trie spot) (child_trie c)
-spot_below (spots.Table table) t k c holds own found =
-    let same : t ≡ table_of table = holds in
-    inr (rw (← same, table_entries_trie t) (sym (find_key (out-Table t).entries k c found)))
-spot_below (spots.Item item) t k c holds own found =
-    item_below item.now (out-Item item.now) t k (child_trie c) refl own holds
-spot_below (spots.Plain plain) t k c holds own found = absurd holds
 
 -- A node is that of a trie, and so of a path of a tree and of a step on from another node, if the trie tells of
 -- anything there.

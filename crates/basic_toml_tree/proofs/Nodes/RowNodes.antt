@@ -1,6 +1,6 @@
 -- The nodes of the rows of an inline table with plain values.
 use Rattle.std.proofs.Common.{◌≡◌, ◌<◌, ◌≤◌, ◌+◌, inl, ℕ, true, false, List, [], ◌∷◌, ◌++◌, Some, None, map, length}
-use Rattle.std.proofs.Common.{take, drop, get_or, refl, ap, sym, ◌∙◌, arith, rules, IsTrue, Vec, Global}
+use Rattle.std.proofs.Common.{take, drop, get_or, refl, ap, sym, ◌∙◌, arith, rules, IsTrue}
 use Rattle.std.specs.Prelude.{slice_get}
 use Rattle.std.specs.Borrow.{Bor}
 use Rattle.std.specs.Str.{bytes_eq}
@@ -42,7 +42,6 @@ use Rattle.basic_toml_tree.specs.Stands.{AtKey, ComesFrom, HoldsRows, ItemRows, 
 use Rattle.basic_toml_tree.specs.Stands.{spot_trie, spot_origins, node_origins, is_wrapper, wraps_table, GivesEntry}
 use Rattle.basic_toml_tree.specs.declared.entries.Entries.{Entries}
 use Rattle.basic_toml_tree.specs.declared.node.Node.{Node}
-use Rattle.basic_toml_tree.specs.declared.plain_value.PlainValue.{PlainValue}
 use Rattle.basic_toml_tree.specs.declared.spot.Spot.{Spot}
 use Rattle.basic_toml_tree.specs.declared.spot.Spot.TheVariants as spots
 use Rattle.basic_toml_tree.specs.declared.tree.Tree.{Tree}
@@ -79,11 +78,6 @@ no_entry : (s : ℕ) (rs : List Row) (k : List ℕ) → is_among (map key_of rs)
     → value_at (entries_of s rs) k ≡ None
 no_entry s [] k apart = refl
 no_entry s (r ∷ rs) k apart = grind (arith, no_entry s rs k)
-
--- a spot with the rows of an inline table within a plain value
-pub inline_holds : (spot : Spot) (v : PlainValue) (z : Vec Row Global) (rs : List Row) → spot ≡ spots.Plain v
-    → v.value.now ≡ raws.Inline z → rs ≡ z.items → HoldsRows spot rs
-inline_holds spot v z rs at is same = rw (at, is, same) (search (rules, raws.the_lemmas))
 
 -- what a spot with rows stands for
 pub record Means (spot : Spot) (rs : List Row) : Type 0 where

@@ -1,4 +1,4 @@
-use Rattle.std.proofs.Common.{◌≡◌, ◌∙◌, arith, refl, rules}
+use Rattle.std.proofs.Common.{◌≡◌, ◌∙◌, arith, refl, rules, sym}
 use Rattle.std.proofs.lemmas.List.{length-map}
 use Rattle.std.proofs.lemmas.Option.{slice_get_read}
 use Rattle.basic_toml_grow.specs.declared.item.Table.{out-Table}
@@ -6,10 +6,11 @@ use Rattle.basic_toml_tree.specs.Data.{child_data, table_data}
 use Rattle.basic_toml_tree.specs.Nodes.{node_data}
 use Rattle.basic_toml_tree.specs.Stands.{HoldsTable}
 use Rattle.basic_toml_tree.proofs.Nodes.NodesInOrder.{pair_read, table_entries}
-use Rattle.basic_toml_tree.proofs.Nodes.EntryNodes.{entry_at, entry_stands}
-use Rattle.basic_toml_tree.proofs.Nodes.RowNodes.{row_node_data, row_stands, none_left, no_row_left}
-use Rattle.basic_toml_tree.proofs.Nodes.RowNodes.{gives_row, gives_next}
-use Rattle.basic_toml_tree.proofs.Nodes.EntryNodes.{plain_read, section_row_data, section_row_stands}
+use Rattle.basic_toml_tree.proofs.Nodes.EntryNodes.{entry_at, entry_stands, plain_read, section_row_data, section_at}
+use Rattle.basic_toml_tree.proofs.Nodes.RowNodes.{row_node_data, row_stands, none_left, no_row_left, gives_row}
+use Rattle.basic_toml_tree.proofs.Nodes.RowNodes.{gives_next}
+use Rattle.basic_toml_grow.specs.Simple.{section_table}
+use Rattle.basic_toml_tree.proofs.SectionData.{section_table_data}
 use Rattle.basic_toml_tree.proofs.entries.EntriesIterator.next.Goals as goal
 
 pub returns-then-at-len-clause-steps : goal.returns-then-at-len-clause-steps
@@ -75,7 +76,7 @@ returns-in_err-row-in-Section-clause-steps c =
 
 pub returns-in_ok-row-in-Section : goal.returns-in_ok-row-in-Section
 returns-in_ok-row-in-Section c =
-    let from = c.args.self.now.table in
+    let s = c.in-Section.section in
     let rows = c.in-Section.rows.now in
     let r = c.in_ok-row-in-Section.row.now in
     let table = rw c.in-Section.is at c.in_ok-table.ensures in
@@ -83,7 +84,7 @@ returns-in_ok-row-in-Section c =
     let there = slice_get_read _ _ _ _ refl read.3.0 read.1 in
     gives_row c.args.self.now rows table.«data» table.fields.1 r c.as_str-in-Section.result c.section_row.result
     there c.as_str-in-Section.ensures.value
-    (c.section_row.ensures.holds ∙ section_row_data c.in-Section.section r
+    (c.section_row.ensures.holds ∙ section_row_data s r
     (plain_read rows table.fields.1 c.args.self.now.at r there))
-    (section_row_stands from c.section_row.result c.in-Section.section rows table.fields.0 table.«data»
-    table.fields.1 c.args.self.now.at r there c.section_row.ensures)
+    (entry_stands (section_table s rows) table.fields.0 (table.«data» ∙ sym (section_table_data s rows table.fields.1))
+    (section_at rows table.fields.1 s c.args.self.now.at r there) c.section_row.ensures)

@@ -5,15 +5,14 @@ use Rattle.basic_toml_plain.proofs.PlainValues.{table_within}
 use Rattle.basic_toml_tree.specs.declared.spot.HeaderTable.TheVariants as tables
 use Rattle.basic_toml_tree.specs.declared.spot.Spot.TheVariants as spots
 use Rattle.basic_toml_tree.proofs.SectionData.{section_rows, section_table_data}
-use Rattle.basic_toml_tree.proofs.Nodes.RowNodes.{inline_holds}
+use Rattle.basic_toml_tree.specs.Stands.{HoldsRows}
 use Rattle.basic_toml_tree.proofs.node.Node.as_table.Goals as goal
 
 pub returns-in-Inline-value-clause-fields : goal.returns-in-Inline-value-clause-fields
 returns-in-Inline-value-clause-fields c =
     let rows = c.in-Inline-value.rows in
-    let holds = inline_holds c.args.self.spot c.in-Plain.plain rows c.as_slice.result.now c.in-Plain.is
-    c.in-Inline-value.is
-    c.as_slice.ensures.value in
+    let holds : HoldsRows c.args.self.spot c.as_slice.result.now =
+    rw (c.in-Plain.is, c.in-Inline-value.is, c.as_slice.ensures.value) (search (rules, raws.the_lemmas)) in
     let plain : is_plain (raws.Inline c.in-Inline-value.rows) 0 ≡ true =
     ap (λ v. is_plain v 0) (sym c.in-Inline-value.is) ∙ c.in-Plain.plain.plain in
     (holds, ap (are_few_simple 0) c.as_slice.ensures.value ∙ table_within rows 0 plain)

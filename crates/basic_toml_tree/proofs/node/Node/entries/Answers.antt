@@ -10,7 +10,7 @@ returns-in-Rows c =
     let rows = has_rows c.args.self.spot c.in_ok-table.field-0 (node_data c.args.self) c.in_ok-table.ensures.«data»
     c.in_ok-table.ensures.fields c.in-Rows.is in
     record {
-      entries = (ap is_table rows.is ∙ rows_are_table rows.rows, refl);
-      distinct = rw (rows.is) (entries_differ rows.rows rows.simple);
+      entries = (ap is_table rows.1 ∙ rows_are_table rows.0, refl);
+      distinct = rw (rows.1) (entries_differ rows.0 rows.2);
       stand = refl;
     }
