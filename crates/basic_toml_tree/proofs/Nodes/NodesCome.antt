@@ -1,6 +1,6 @@
 -- A node comes from what the origins in the tree tell at its path.
-use Rattle.std.proofs.Common.{inl, inr, ◌≡◌, ◌==◌, ℕ, true, false, [], ◌∷◌, ◌++◌, Option, Some, refl, ap, sym}
-use Rattle.std.proofs.Common.{◌∙◌, subst, rules, append_assoc}
+use Rattle.std.proofs.Common.{inl, inr, ◌≡◌, ◌==◌, ℕ, true, false, [], ◌∷◌, ◌++◌, Option, Some, refl, ap, sym, ◌∙◌}
+use Rattle.std.proofs.Common.{subst, rules, append_assoc}
 use Rattle.std.specs.Prelude.{IfSome, if◌then◌else◌}
 use Rattle.std.specs.Borrow.{Bor}
 use Rattle.std.proofs.Math.Path.{fun_ext}
@@ -20,11 +20,9 @@ use Rattle.basic_toml_tree.specs.declared.spot.Spot.{Spot}
 use Rattle.basic_toml_tree.specs.declared.spot.Spot.TheVariants as spots
 use Rattle.basic_toml_tree.specs.HeaderTables.{table_of}
 use Rattle.basic_toml_tree.specs.Origin.{holds_tables, item_name, item_section, table_is_made, holds_string}
-use Rattle.basic_toml_tree.specs.Stands.{node_origins, SpotComes, ComesFrom}
-use Rattle.basic_toml_tree.specs.Stands.{tree_origins}
+use Rattle.basic_toml_tree.specs.Stands.{node_origins, SpotComes, ComesFrom, tree_origins}
 use Rattle.basic_toml_grow.proofs.ItemsStand.{shape}
-use Rattle.basic_toml_grow.proofs.Origins.OriginsSeen.{child_seen, made_seen, section_seen, table_origins}
-use Rattle.basic_toml_grow.proofs.Origins.OriginsSeen.{seen_at_none}
+use Rattle.basic_toml_grow.proofs.Origins.OriginsSeen.{child_seen, made_seen, section_seen, table_origins, seen_at_none}
 
 -- what tells the same at each path
 pub comes_alike : {f g : Origins} {count : ℕ} {spot : Spot} {at : ℕ} → ((q : Path) → f q ≡ g q)

@@ -1,7 +1,7 @@
 -- A node below another one stands at the path of that one and one more step.
 use Rattle.std.proofs.Common.{◌≡◌, ◌⊎◌, inl, inr, ◌==◌, ℕ, Bool, true, false, List, [], ◌∷◌}
 use Rattle.std.proofs.Common.{◌++◌, Some, refl, ap, sym, ◌∙◌, arith, rules, Vec, Global}
-use Rattle.std.specs.Prelude.{slice_get}
+use Rattle.std.specs.Prelude.{slice_get, ◌≤◌, Option, IfSome, IfNone, MatchOption, length, None}
 use Rattle.std.specs.Option.{option_and_then}
 use Rattle.std.specs.Borrow.{Bor}
 use Rattle.basic_toml_value.specs.Data.{Data}
@@ -9,31 +9,27 @@ use Rattle.basic_toml_grammar.specs.Steps.{Step, number, Path}
 use Rattle.basic_toml_grammar.specs.Standing as standing
 use Rattle.basic_toml_grammar.specs.Trie.{Trie, trie, nothing, below}
 use Rattle.basic_toml_grammar.specs.Mentions.{finished}
-use Rattle.basic_toml_read.specs.declared.section.Raw as raws
 use Rattle.basic_toml_read.specs.declared.section.Element.{Element}
 use Rattle.basic_toml_read.specs.SectionView.{raw_of}
-use Rattle.basic_toml_read.proofs.ViewsSeen.{array_of}
 use Rattle.basic_toml_plain.specs.Plain.{plain_array}
 use Rattle.basic_toml_plain.specs.Tries.{leaf}
-use Rattle.basic_toml_grow.specs.declared.item.Item.{Item, the_lemmas, Array, Plain}
+use Rattle.basic_toml_grow.specs.declared.item.Item.{Item, the_lemmas, Array}
 use Rattle.basic_toml_grow.specs.declared.item.Child.{Child}
 use Rattle.basic_toml_tree.specs.declared.tree.Tree.{Tree}
 use Rattle.basic_toml_tree.specs.declared.node.Node.{Node}
-use Rattle.basic_toml_tree.specs.declared.plain_value.PlainValue.{PlainValue}
 use Rattle.basic_toml_tree.specs.declared.spot.Spot.{Spot}
 use Rattle.basic_toml_tree.specs.declared.spot.Spot.TheVariants as spots
 use Rattle.basic_toml_tree.specs.Stands.{trie_at, tree_trie, spot_trie, wraps_table, is_root}
 use Rattle.basic_toml_tree.proofs.Nodes.KeysLead.{KeepsKeys, keys_beside}
 use Rattle.basic_toml_tree.specs.Stands.{StandsAt, StandsOn, IsBeside, ComesFrom, node_origins}
-use Rattle.basic_toml_tree.specs.Stands.{AtKey, StartIsKept, IsPlainElement, spot_origins}
+use Rattle.basic_toml_tree.specs.Stands.{AtNumber, AtKey, StartIsKept, IsPlainElement, spot_origins}
 use Rattle.basic_toml_tree.specs.Data.{child_data, table_data}
 use Rattle.basic_toml_tree.specs.Nodes.{node_data, data_at, elements_in}
 use Rattle.basic_toml_tree.specs.Outer.{around}
 use Rattle.basic_toml_tree.specs.Paths.{data_by, data_along}
 use Rattle.basic_toml_grow.specs.Origins.{child_origins, value_origins}
-use Rattle.basic_toml_tree.proofs.Nodes.PlainNodes.{element_comes}
+use Rattle.basic_toml_tree.proofs.Nodes.PlainNodes.{element_comes, plain_length, plain_read}
 use Rattle.basic_toml_grow.proofs.ItemTries.{table_entries_trie}
-use Rattle.basic_toml_grow.proofs.PlainArrays.{plain_trie}
 use Rattle.basic_toml_tree.proofs.Nodes.NodesCome.{comes_alike, comes_on}
 use Rattle.basic_toml_grow.proofs.Origins.OriginsSeen.{array_seen}
 use Rattle.basic_toml_tree.proofs.Nodes.Lines.{around_number}
@@ -125,43 +121,38 @@ beside_stands from node here n beside array read more comes tree p stands =
     (rw (around_number p n, beside.outer) stands.outer)
     (keys_beside from node here n beside tree p stands)
 
--- an element of an array of plain values
-element_stands : (from node : Node) (n : ℕ) (es : List Element) → IsPlainElement from es n node
-    → spot_trie from.spot ≡ leaf (finished (plain_array es))
+-- what is answered for a number of an array of plain values
+pub plain_given : (from : Node) (es : List Element) (n : ℕ) (result : Option Node)
+    → node_data from ≡ finished (plain_array es) → spot_trie from.spot ≡ leaf (finished (plain_array es))
     → ((at s : ℕ) → spot_origins from.spot at s ≡ value_origins s at (plain_array es))
-    → slice_get (elements_in (node_data from)) n ≡ Some (node_data node) → StandsOn from (number n) node
-element_stands from node n es placed here origins read =
-    beside_stands from node node.spot n placed.beside (ap tells_table here) read
-    (λ own. inl (ap (below (number n)) here)) (λ counted. element_comes from node es n placed origins)
+    → IfNone result (length es ≤ n) → IfSome result (IsPlainElement from es n)
+    → MatchOption result (length (elements_in (node_data from)) ≤ n)
+    (λ node. slice_get (elements_in (node_data from)) n ≡ Some (node_data node))
+    × IfSome result (AtNumber from n)
+plain_given from es n None is here origins past some = (rw (is, plain_length es) past, tt)
+plain_given from es n (Some node) is here origins past some =
+    let read : slice_get (elements_in (node_data from)) n ≡ Some (node_data node) =
+    rw (is, some.spot) (plain_read es n node.start (raw_of some.plain.value.now) some.placed) in (
+      read,
+      beside_stands from node node.spot n some.beside (ap tells_table here) read
+          (λ own. inl (ap (below (number n)) here)) (λ counted. element_comes from node es n some origins),
+    )
 
--- and of one among such elements
-pub value_stands : (from node : Node) (n : ℕ) (v : PlainValue) (es : Vec Element Global) → from.spot ≡ spots.Plain v
-    → v.value.now ≡ raws.Array es → IsPlainElement from es.items n node
-    → slice_get (elements_in (node_data from)) n ≡ Some (node_data node) → StandsOn from (number n) node
-value_stands from node n v es at is placed read =
-    let seen : raw_of v.value.now ≡ plain_array es.items = ap raw_of is ∙ array_of es in
-    element_stands from node n es.items placed (rw (at, seen) refl) (λ start s. rw (at, seen) refl) read
-
-module _ (from node : Node) (n : ℕ) (b : Bor Item) (at : from.spot ≡ spots.Item b) where
-  pub literal_stands : (children : Vec Child Global) (spot : Spot) (child : Child) → b.now ≡ Array children
-      → slice_get children.items n ≡ Some child → node_data node ≡ child_data child → IsBeside from spot node
-      → ComesFrom (child_origins child) node
-      → (slice_get (elements_in (node_data from)) n ≡ Some (node_data node)) × StandsOn from (number n) node
-  literal_stands children spot child is there same beside comes =
-      let read : slice_get (elements_in (node_data from)) n ≡ Some (node_data node) =
-      rw (at, is, array_elements children, same) (read_mapped child_data children.items n child there) in (
-        read,
-        beside_stands from node spot n beside (rw (at, is) (search (rules, the_lemmas))) read
-            (λ own. inl (rw (at, is) (search (rules, the_lemmas)))) (λ counted s. comes_alike (λ q. rw (
-              at,
-              is,
-              array_seen children from.start s,
-              read_mapped child_origins children.items n child there,
-            ) refl) comes),
-      )
-
-  pub plain_stand : (es : List Element) → b.now ≡ Plain es → IsPlainElement from es n node
-      → slice_get (elements_in (node_data from)) n ≡ Some (node_data node) → StandsOn from (number n) node
-  plain_stand es is placed read =
-      element_stands from node n es placed (rw (at, is) (plain_trie es))
-      (λ start s. rw (at, is) (search (rules, the_lemmas))) read
+-- and what for one of an array of other items
+pub literal_stands : (from node : Node) (n : ℕ) (b : Bor Item) → from.spot ≡ spots.Item b
+    → (children : Vec Child Global) (spot : Spot) (child : Child) → b.now ≡ Array children
+    → slice_get children.items n ≡ Some child → node_data node ≡ child_data child → IsBeside from spot node
+    → ComesFrom (child_origins child) node
+    → (slice_get (elements_in (node_data from)) n ≡ Some (node_data node)) × AtNumber from n node
+literal_stands from node n b at children spot child is there same beside comes =
+    let read : slice_get (elements_in (node_data from)) n ≡ Some (node_data node) =
+    rw (at, is, array_elements children, same) (read_mapped child_data children.items n child there) in (
+      read,
+      beside_stands from node spot n beside (rw (at, is) (search (rules, the_lemmas))) read
+          (λ own. inl (rw (at, is) (search (rules, the_lemmas)))) (λ counted s. comes_alike (λ q. rw (
+            at,
+            is,
+            array_seen children from.start s,
+            read_mapped child_origins children.items n child there,
+          ) refl) comes),
+    )
