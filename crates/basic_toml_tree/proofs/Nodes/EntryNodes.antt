@@ -1,7 +1,7 @@
 -- The node of what stands at a key of a table: its data stand there, and so does it in the tree. It is that of an
 -- entry, or of a row of a section, whose rows stand as they were read for the table of its header.
-use Rattle.std.proofs.Common.{◌∷◌, arith, true, ◌≡◌, ℕ, false, List, [], Some, ◌∙◌, inl, inr, ◌⊎◌, map, refl, ap, sym, rules}
-use Rattle.std.proofs.Common.{Box, Global}
+use Rattle.std.proofs.Common.{◌∷◌, arith, true, ◌≡◌, ℕ, false, List, [], Some, ◌∙◌, inl, inr, ◌⊎◌, map, refl, ap, sym}
+use Rattle.std.proofs.Common.{rules, Box, Global}
 use Rattle.std.proofs.lemmas.Slice.Eq.{bytes_eq-Decides}
 use Rattle.basic_toml_index.proofs.DistinctKeys.{bytes_eq-same, bytes_eq_other, is_among-before}
 use Rattle.basic_toml_grammar.specs.Steps.{Path, key}

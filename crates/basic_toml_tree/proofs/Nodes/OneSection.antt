@@ -129,7 +129,7 @@ among_at [] m l there = absurd (cc)
 among_at (i ∷ ls) zero l there = let is : i ≡ l = cc in rw is first
 among_at (i ∷ ls) (suc m) l there = next (among_at ls m l there)
 
-pairs_apart : {i j : Located} {ls : List Located} → any_pair clashes ls ≡ false → Among i ls → Among j ls
+pub pairs_apart : {i j : Located} {ls : List Located} → any_pair clashes ls ≡ false → Among i ls → Among j ls
     → (i ≡ j) ⊎ (clashes_one_way i j ≡ false)
 pairs_apart none first first = inl refl
 pairs_apart none first (next b) = inr (or_parts _ _ (none_passes (clashes _) (or_parts _ _ none).0 b)).0
@@ -170,7 +170,7 @@ further_clashes i j y z s (u ∷ b, at, rest) over apart =
     rw (crossed_is i.path steps (target j), same) (crosses_after i.path (u ∷ b) steps (shorter (u ∷ b) z s steps on)) in
     false≢true (sym (over.crossed j (or_parts _ _ (or_parts _ _ apart).1).1) ∙ crossed)
 
-no_longer : (w : Path) (u : Step) (y : Path) → begins (w ++ u ∷ y) w ≡ true → ⊥
+pub no_longer : (w : Path) (u : Step) (y : Path) → begins (w ++ u ∷ y) w ≡ true → ⊥
 no_longer [] u y e = false≢true e
 no_longer (s ∷ w) u y e = no_longer w u y (and_parts _ _ e).1
 

@@ -66,5 +66,6 @@ module _ (sections : List Section) (p : Path) (node : Node) (is : IsNodeAt secti
       some_both (grammar.node_at sections p) (row_told sections p node is not)
       (rw not (if_there (grammar.node_of_sections ls last ls p) (λ n there. outer_is n (outer_begins ls last
       (mentions_peace sections is.keyed (no_clash sections is.resolved).0 (no_clash sections is.resolved).1)
+      (no_clash sections is.resolved).1
       (rows_free sections is.resolved) (rows_keyed sections is.resolved) p not n there))))
       (λ found told outer. (told, outer))

@@ -103,7 +103,8 @@ returns-in-Item-Plain c =
     let whole : c.in-Item-Plain.field-0.now ≡ Plain es = is ∙ ap Plain (sym c.elements.ensures.elements) in
     let given = plain_given c.args.self es c.args.at c.plain_element.result
     (ap spot_data at ∙ ap data_of whole ∙ plain_item es) (rw (at, whole) (plain_trie es))
-    (λ start s. rw (at, whole) (search (rules, the_lemmas))) c.plain_element.ensures.none c.plain_element.ensures.some in
+    (λ start s. rw (at, whole) (search (rules, the_lemmas))) c.plain_element.ensures.none
+    c.plain_element.ensures.some in
     record { within = c.plain_element.ensures.within; «data» = given.0; stands = given.1 }
 
 pub plain_element-requires-in-Array : goal.plain_element-requires-in-Array
