@@ -1,16 +1,13 @@
 -- The nodes of the rows of an inline table with plain values.
-use Rattle.std.proofs.Common.{◌≡◌, ◌<◌, ◌≤◌, ◌+◌, inl, ℕ, true, false, List, [], ◌∷◌, ◌++◌, Some, None, map, length}
-use Rattle.std.proofs.Common.{take, drop, get_or, refl, ap, sym, ◌∙◌, arith, rules, IsTrue}
+use Rattle.std.proofs.Common.{◌≡◌, ◌≤◌, ◌+◌, inl, ℕ, true, false, List, [], ◌∷◌, ◌++◌, Some, None, map, length}
+use Rattle.std.proofs.Common.{drop, refl, ap, sym, ◌∙◌, arith, rules, IsTrue}
 use Rattle.std.specs.Prelude.{slice_get}
 use Rattle.std.specs.Borrow.{Bor}
-use Rattle.std.specs.Str.{bytes_eq}
 use Rattle.std.proofs.lemmas.Bool.{false≢true}
-use Rattle.std.proofs.lemmas.Grind.{common_steps}
-use Rattle.std.proofs.lemmas.List.{map-append, length-map, drop_all}
+use Rattle.std.proofs.lemmas.List.{length-map, drop_all}
 use Rattle.std.specs.Iterator.{MakesProgress, item_count}
 use Rattle.std.specs.declared.iter.Iterator.{can_next-default}
 use Rattle.basic_toml_index.specs.Keys.{is_among, are_distinct}
-use Rattle.basic_toml_index.proofs.DistinctKeys.{bytes_eq_other, is_among-push}
 use Rattle.basic_toml_grammar.specs.Mentions.{finished}
 use Rattle.basic_toml_value.specs.Pairs.{keys_of as pair_keys, value_at}
 use Rattle.basic_toml_grammar.specs.Steps.{key, Path}
@@ -55,13 +52,6 @@ use Rattle.basic_toml_tree.proofs.Nodes.NodesStand.{GivenAt, further, stands_on}
 use Rattle.basic_toml_tree.proofs.Nodes.OuterStands.{keeps_below}
 use Rattle.basic_toml_tree.proofs.Nodes.PlainNodes.{value_comes}
 use Rattle.basic_toml_tree.proofs.Nodes.EntryNodes.{plain_read, rows_differ, section_at, section_row_data}
-
--- none of the rows up to a position has a key
-pub none_passed : (rs : List Row) (n : ℕ) (r : Row) (k : List ℕ) → n < length rs → r ≡ get_or rs n r
-    → is_among (map key_of (take n rs)) k ≡ false → bytes_eq (key_of r) k ≡ false
-    → is_among (map key_of (take (n + 1) rs)) k ≡ false
-none_passed rs n r k within read before other =
-    grind (arith, common_steps, map-append key_of, is_among-push, bytes_eq_other k (key_of r))
 
 -- the origins of a row are those of its value
 own_origins : (s : ℕ) (rs : List Row) (n : ℕ) (r : Row) (q : Path) → are_few_simple 0 rs ≡ true
