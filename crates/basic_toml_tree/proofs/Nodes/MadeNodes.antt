@@ -1,37 +1,31 @@
 -- What headers made, as the tree has it and as the section list foretells it.
-use Rattle.std.proofs.Common.{arith, ◌≡◌, inl, inr, ◌==◌, ℕ, Bool, true, false, List, [], ◌∷◌, Option, refl, ap}
+use Rattle.std.proofs.Common.{arith, ◌≡◌, inl, inr, ◌==◌, ℕ, Bool, true, false, List, [], ◌∷◌, refl, ap}
 use Rattle.std.proofs.Common.{sym, ◌∙◌, map, codes}
-use Rattle.std.specs.Prelude.{◌||◌, if◌then◌else◌}
-use Rattle.std.specs.Borrow.{Bor}
-use Rattle.std.proofs.lemmas.Bool.{false≢true, or_left, or_right}
+use Rattle.std.specs.Prelude.{if◌then◌else◌}
+use Rattle.std.proofs.lemmas.Bool.{false≢true}
 use Rattle.basic_toml_grammar.specs.Sections.{Section}
 use Rattle.basic_toml_grammar.specs.Steps.{Path}
 use Rattle.basic_toml_grammar.specs.IndexedPath.{located}
-use Rattle.basic_toml_grammar.specs.Standing.{Standing}
 use Rattle.basic_toml_grammar.specs.Trie.{Trie, nothing, standing, below}
 use Rattle.basic_toml_grammar.specs.Nodes as grammar
 use Rattle.basic_toml_grammar.proofs.Tries.MarksInATrie.{descend, standing_of}
 use Rattle.basic_toml_grammar.proofs.Tries.SectionsInATrie.{marks_put}
-use Rattle.basic_toml_grow.specs.declared.item.Item.{Item, out-Item}
-use Rattle.basic_toml_grow.specs.declared.item.Item.TheOpen.{Item-F}
-use Rattle.basic_toml_grow.specs.declared.item.Child.{Child}
 use Rattle.basic_toml_grow.specs.declared.item.Table.{Table}
 use Rattle.basic_toml_tree.specs.declared.node.Node.{Node}
-use Rattle.basic_toml_tree.specs.declared.spot.HeaderTable.{HeaderTable}
 use Rattle.basic_toml_tree.specs.declared.spot.Spot.{Spot}
 use Rattle.basic_toml_tree.specs.declared.spot.Spot.TheVariants as spots
-use Rattle.basic_toml_grow.specs.Item.{item_trie, table_trie}
+use Rattle.basic_toml_grow.specs.Item.{table_trie}
 use Rattle.basic_toml_tree.specs.Headers.{last_of}
 use Rattle.basic_toml_tree.specs.HeaderTables.{table_of}
 use Rattle.basic_toml_tree.specs.Origin.{spot_is_made, is_made, spot_name, last_at, spot_is_borrowed}
 use Rattle.basic_toml_tree.specs.FirstStop.{Stands, only_root}
 use Rattle.basic_toml_tree.specs.Resolve.{IsResolved, head}
-use Rattle.basic_toml_tree.specs.Stands.{trie_at, tree_trie, spot_trie, wraps_table, is_wrapper, is_root, IsNodeAt}
+use Rattle.basic_toml_tree.specs.Stands.{trie_at, tree_trie, spot_trie, wraps_table, is_root, IsNodeAt}
 use Rattle.basic_toml_tree.specs.Stands.{StandsAt}
 use Rattle.basic_toml_tree.specs.Outer.{stands_made}
 use Rattle.basic_toml_tree.proofs.HeadersMake.{made_is, array_is}
 use Rattle.basic_toml_grow.proofs.ItemTries.{table_entries_trie}
-use Rattle.basic_toml_grow.proofs.ItemsStand.{item_standing, stands_array, standing_here}
+use Rattle.basic_toml_grow.proofs.ItemsStand.{stands_array, standing_here}
 use Rattle.basic_toml_tree.proofs.Nodes.NodesStand.{tells_table}
 use Rattle.basic_toml_tree.specs.declared.tree.Tree.{Tree}
 
@@ -71,30 +65,16 @@ pub record IsMade (count : ℕ) (spot : Spot) : Type 0 where
   pub name : spot_name count spot ≡ made_name (stands_array (standing (spot_trie spot)))
   pub slice : spot_is_borrowed spot ≡ false
 
-item_made : (count : ℕ) (b : Bor Item) (x : Item-F Item Child Table) (o : Option Standing) → out-Item b.now ≡ x
-    → item_standing x o → standing (item_trie b.now) ≡ o → is_wrapper x ≡ false → stands_made o ≡ true
-    → IsMade count (spots.Item b)
-item_made count b x o is stands same own made = grind arith
-
-table_made : (count : ℕ) (b : HeaderTable)
-    → ((count == 0) || stands_made (standing (table_trie (table_of b)))) ≡ true
-    → IsMade count (spots.Table b)
-table_made count b made =
-    let stands = ap standing (table_entries_trie (table_of b)) in
-    let here : spot_is_made count (spots.Table b) ≡ true = rw stands at made in
-    record { made = here; name = rw (here, stands) refl; slice = refl }
-
 -- what stands as made, and the root
 pub spot_made : (count : ℕ) (spot : Spot) → wraps_table spot ≡ false → stands_made (standing (spot_trie spot)) ≡ true
     → IsMade count spot
-spot_made count (spots.Table b) own made = table_made count b (or_right _ _ made)
-spot_made count (spots.Item b) own made =
-    item_made count b (out-Item b.now) (standing (item_trie b.now)) refl (standing_here b.now) refl own made
+spot_made count (spots.Table b) own made = grind (arith, table_entries_trie (table_of b))
+spot_made count (spots.Item b) own made = grind (arith, standing_here b.now)
 spot_made count (spots.Plain b) own made = absurd (false≢true made)
 
 pub root_made : (count : ℕ) (spot : Spot) (t : Table) → wraps_table spot ≡ false → (count == 0) ≡ true
     → spot_trie spot ≡ table_trie t → IsMade count spot
-root_made count (spots.Table b) t own none same = table_made count b (or_left _ _ none)
+root_made count (spots.Table b) t own none same = grind (arith, table_entries_trie (table_of b))
 root_made count (spots.Item b) t own none same = grind (arith, standing_here b.now, table_entries_trie t)
 root_made count (spots.Plain b) t own none same = grind (arith, table_entries_trie t)
 

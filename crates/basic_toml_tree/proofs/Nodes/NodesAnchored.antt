@@ -12,18 +12,13 @@ use Rattle.basic_toml_grammar.proofs.Clash.PathsAgree.{append_none}
 use Rattle.basic_toml_origin.specs.declared.anchor.Anchor.{Anchor}
 use Rattle.basic_toml_origin.specs.declared.anchor.Anchor.TheVariants as anchors
 use Rattle.basic_toml_origin.specs.Anchor.{LeadsTo, IsAnchorOf}
-use Rattle.basic_toml_grow.specs.declared.item.Item.{Item, out-Item}
-use Rattle.basic_toml_grow.specs.declared.item.Item.TheOpen.{Item-F}
-use Rattle.basic_toml_grow.specs.declared.item.Child.{Child}
-use Rattle.basic_toml_grow.specs.declared.item.Table.{Table, out-Table}
-use Rattle.basic_toml_grow.specs.Item.{item_trie}
 use Rattle.basic_toml_grow.proofs.ItemTries.{table_entries_trie}
-use Rattle.basic_toml_grow.proofs.ItemsStand.{item_standing, stands_array, standing_here}
+use Rattle.basic_toml_grow.proofs.ItemsStand.{stands_array, standing_here}
 use Rattle.basic_toml_tree.specs.declared.node.Node.{Node}
 use Rattle.basic_toml_tree.specs.declared.spot.Spot.{Spot}
 use Rattle.basic_toml_tree.specs.declared.spot.Spot.TheVariants as spots
 use Rattle.basic_toml_tree.specs.HeaderTables.{table_of}
-use Rattle.basic_toml_tree.specs.Origin.{spot_is_made, spot_section, spot_anchor, anchor_of, item_anchor, item_section}
+use Rattle.basic_toml_tree.specs.Origin.{spot_is_made, spot_section, spot_anchor, anchor_of}
 use Rattle.basic_toml_tree.specs.Origin.{start_of, is_made}
 use Rattle.basic_toml_tree.specs.Stands.{IsNodeAt, is_root, spot_trie, tree_origins}
 use Rattle.basic_toml_tree.proofs.Foretold.NodesForetold.{made_foretold, start_foretold}
@@ -42,18 +37,8 @@ said (Some x) P some = some
 made_anchor : (spot : Spot) (start keys n : ℕ) → spot_is_made 1 spot ≡ true → spot_section spot ≡ Some n
     → spot_anchor spot start keys
     ≡ (if stands_array (standing (spot_trie spot)) then anchors.Array n keys else anchors.Table n keys)
-made_anchor (spots.Table b) start keys n made section =
-    let same : (out-Table (table_of b)).section ≡ n = cc (rw made at section) in
-    rw (made, table_entries_trie (table_of b), same) refl
-made_anchor (spots.Item b) start keys n made section = go (out-Item b.now) (standing_here b.now) section
-  where
-    go : (x : Item-F Item Child Table) → item_standing x (standing (item_trie b.now)) → item_section x ≡ Some n
-        → item_anchor x start keys
-        ≡ (if stands_array (standing (item_trie b.now)) then anchors.Array n keys else anchors.Table n keys)
-    go (Item-F.Tables tables) stands section =
-        let same : (out-Table tables.value.1).section ≡ n = cc in rw (stands, same) refl
-    go (Item-F.Sections tables) stands section = let same : tables.value.1.0 ≡ n = cc in rw (stands, same) refl
-    go x stands section = absurd (cc)
+made_anchor (spots.Table b) start keys n made section = grind (arith, table_entries_trie (table_of b))
+made_anchor (spots.Item b) start keys n made section = grind (arith, standing_here b.now)
 made_anchor (spots.Plain b) start keys n made section = absurd (false≢true made)
 
 row_anchor : (spot : Spot) (start keys : ℕ) → spot_is_made 1 spot ≡ false

@@ -77,8 +77,4 @@ module _ (node : nodes.Node) (found : Node) (told : RowTold node found) where
       → offset_of node ≡ found.offset
   unfolding offset_of start_of outer_of
   row_place outer plain =
-      let named = ap names_array (sym told.name) ∙ literal_name node.count node.spot told.made in
-      elim plain [
-        | inl array ↦ rw (told.made, ← named, array.0) (outer ∙ sym array.1)
-        | inr other ↦ rw (told.made, ← named, other.0) (told.start ∙ sym other.1)
-      ]
+      grind (arith, told.made, told.name, told.start, literal_name node.count node.spot told.made)
