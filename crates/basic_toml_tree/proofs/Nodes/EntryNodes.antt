@@ -98,13 +98,9 @@ module _ {from node : Node} {k : List ℕ} {c : Child} (t : Table) (holds : Hold
   entry_data = rw (whole, is.holds) (data_at_found t k c found)
 
   entry_on : wraps_table from.spot ≡ false → StepsOn from (key k) node
-  entry_on own = elim ((tells from.spot t holds).trie own k) [
-    | inl none ↦ inl none
-    | inr same ↦ inr (
-      is.below.trie ∙ sym (rw (same, table_entries_trie t) (find_key (out-Table t).entries k c found)),
-      is.below.own,
-    )
-  ]
+  entry_on own =
+      let key = find_key (out-Table t).entries k c found in
+      grind (arith, (tells from.spot t holds).trie own k, is.below.trie, is.below.own, key, table_entries_trie t)
 
   entry_origins : (s : ℕ) (q : Path) → node_origins s from (key k ∷ q) ≡ child_origins c q
   entry_origins s q = (tells from.spot t holds).origins from.start s k q ∙ rw (seen_at_key t k q, found) refl

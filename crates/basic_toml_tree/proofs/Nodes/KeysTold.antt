@@ -2,7 +2,7 @@
 use Rattle.std.proofs.Common.{◌≡◌, inl, inr, ℕ, zero, suc, true, false, List, [], ◌∷◌, ◌++◌, length, map, take}
 use Rattle.std.proofs.Common.{get_or, Option, Some, None, refl, ap, sym, ◌∙◌, arith, length-append, append_assoc}
 use Rattle.std.specs.Prelude.{◌==◌, slice_get, IfSome, IsSomeAnd}
-use Rattle.std.proofs.lemmas.Bool.{false≢true, and_parts, and_from, cases_Bool}
+use Rattle.std.proofs.lemmas.Bool.{false≢true, and_parts, cases_Bool}
 use Rattle.std.proofs.lemmas.List.{append_cancel_left, take_all}
 use Rattle.std.proofs.lemmas.Option.{IfSome_then}
 use Rattle.std.proofs.lemmas.Slice.Eq.{bytes_eq-Decides}
@@ -51,8 +51,7 @@ located_keys s before =
 -- keys of a path that begins another
 begins_keys : (p q : Path) → begins p q ≡ true → begins (steps_of (keys_of p)) (steps_of (keys_of q)) ≡ true
 begins_keys [] q e = refl
-begins_keys (key k ∷ p) (key l ∷ q) e =
-    let both = and_parts _ _ e in and_from _ _ both.0 (begins_keys p q both.1)
+begins_keys (key k ∷ p) (key l ∷ q) e = grind (arith, begins_keys p q)
 begins_keys (number n ∷ p) (number m ∷ q) e = begins_keys p q (and_parts _ _ e).1
 begins_keys p q e = absurd (false≢true e)
 
@@ -61,17 +60,13 @@ first_are : (keys header : KeyTexts) → begins (steps_of keys) (steps_of header
     → take (length keys) header ≡ keys
 first_are [] header e = refl
 first_are (k ∷ keys) [] e = absurd (false≢true e)
-first_are (k ∷ keys) (l ∷ header) e =
-    let both = and_parts _ _ e in
-    rw ((bytes_eq-Decides k l).0 both.0) (ap (λ keys. l ∷ keys) (first_are keys header both.1))
+first_are (k ∷ keys) (l ∷ header) e = grind (arith, bytes_eq-Decides k l, first_are keys header)
 
 -- the sections of the list where they stand
 located_at : (before ss : List Section) (n : ℕ) (l : Located) → slice_get (located_from before ss) n ≡ Some l
     → (header_of (keys_at (map head ss) n) ≡ keys_of l.path) × (keys_of l.path ≡ texts l.section.header)
 located_at before [] n l there = absurd (cc)
-located_at before (s ∷ ss) zero l there =
-    let is : located_after before s ≡ l = cc in
-    rw (← is) (sym (located_keys s before), located_keys s before)
+located_at before (s ∷ ss) zero l there = grind (arith, located_keys s before)
 located_at before (s ∷ ss) (suc n) l there = located_at (s ∷ before) ss n l there
 
 -- the headers that the tree keeps are those of the list
@@ -97,10 +92,7 @@ pub made_below : (sections : List Section) (tree : Tree) → IsResolved sections
 made_below sections tree resolved p k node there made =
     let stands = sym (made_in_trie sections (tree_trie tree) resolved.stands (p ++ key k ∷ []) (no_root p (key k)))
     ∙ made in
-    elim there [
-      | inl none ↦ absurd (false≢true (rw none at stands))
-      | inr is ↦ (spot_made 1 node.spot is.1 (rw (is.0) stands)).made
-    ]
+    grind (arith, there, stands, spot_made 1 node.spot)
 
 -- the keys that a node keeps
 kept_first : (from : Node) (tree : Tree) (p : Path) → from.tree.now ≡ tree → from.count ≡ length (keys_of p)

@@ -62,8 +62,7 @@ keys_both (number n ∷ p) x = keys_both p x
 around_front : (p x : Path) → ends_key p ≡ true → no_keys x ≡ true → around (p ++ x) ≡ front p
 around_front [] x e none = absurd (false≢true e)
 around_front (s ∷ []) x e none = rw none refl
-around_front (s ∷ t ∷ p) x e none =
-    rw (keys_both (t ∷ p) x, some_key (t ∷ p) e) (ap (λ q. s ∷ q) (around_front (t ∷ p) x e none))
+around_front (s ∷ t ∷ p) x e none = grind (arith, keys_both (t ∷ p) x, some_key (t ∷ p) e, around_front (t ∷ p) x)
 
 around_on : (p x : Path) → no_keys x ≡ false → around (p ++ x) ≡ p ++ around x
 around_on [] x e = refl
@@ -160,8 +159,7 @@ module _ (holder : Path → Option ℕ) (p : Path) where
   q = around p
 
   off : (e : Line) → begins (path_of e) p ≡ false → begins (path_of e) (around p) ≡ false
-  off e not =
-      false_from_ne_true _ (λ x. false≢true (sym not ∙ goes_on (path_of e) (around p) p x (around_begins p)))
+  off e not = grind (arith, goes_on (path_of e) (around p) p, around_begins p)
 
   -- an earlier line, which the path does not meet
   later : (e : Line) (es : List Line) (n : Node) → begins (path_of e) p ≡ false → list_any (meets e) es ≡ false

@@ -3,7 +3,7 @@
 use Rattle.std.proofs.Common.{arith, ◌≡◌, ℕ, zero, suc, true, false, List, [], ◌∷◌, ◌++◌, Option, Some, refl, sym, ◌∙◌}
 use Rattle.std.proofs.Common.{inl, inr}
 use Rattle.std.specs.List.{list_any, list_all}
-use Rattle.std.proofs.lemmas.Bool.{false≢true, and_parts, or_parts, false_from_ne_true, cases_Bool}
+use Rattle.std.proofs.lemmas.Bool.{false≢true, and_parts, or_parts, cases_Bool}
 use Rattle.basic_toml_value.specs.Data.{Data}
 use Rattle.basic_toml_grammar.specs.Sections.{Key, KeyTexts, texts, Raw, Elements, no_elements, element, Rows, no_rows}
 use Rattle.basic_toml_grammar.specs.Sections.{row}
@@ -139,8 +139,7 @@ overlap_barred (s ∷ p) [] d c e = refl
 overlap_barred (s ∷ p) (t ∷ q) d c e = grind (arith, turn_eq t s, overlap_barred p q d c)
 
 not_overlap : (p q : Path) (d c : Data) → bars p (Some d) q (Some c) ≡ false → overlap p q ≡ false
-not_overlap p q d c free =
-    false_from_ne_true _ (λ e. false≢true (sym free ∙ overlap_barred p q d c e))
+not_overlap p q d c free = grind (arith, overlap_barred p q d c)
 
 free_rows : (e : Line) (d : Data) (base : Path) (name : List Key → KeyTexts) (rows : Rows) (ms : List Mention)
     (es : List Line) → (list_any (barred_by (mention (path_of e) (Some d))) ms ≡ false → list_any (meets e) es ≡ false)
@@ -148,9 +147,11 @@ free_rows : (e : Line) (d : Data) (base : Path) (name : List Key → KeyTexts) (
     → list_any (meets e) (lines_of base name rows ++ es) ≡ false
 free_rows e d base name no_rows ms es rest free = rest free
 free_rows e d base name (row ks at v rows) ms es rest free =
-    let path = base ++ steps_of (texts ks) in
-    let split = or_parts _ _ free in
-    rw (not_overlap (path_of e) path d (finished v) split.0) (free_rows e d base name rows ms es rest split.1)
+    grind (
+      arith,
+      not_overlap (path_of e) (base ++ steps_of (texts ks)) d (finished v),
+      free_rows e d base name rows ms es rest,
+    )
 
 free_all : (e : Line) (d : Data) (ls : List Located)
     → list_any (barred_by (mention (path_of e) (Some d))) (mentions ls) ≡ false

@@ -92,10 +92,7 @@ module _ (tree : Tree) (node : Node) (p : Path) (stands : StandsAt tree p node) 
 
   pub table_at : stands_made (standing (trie_at p (tree_trie tree))) ≡ true
       → IsMade node.count node.spot × (spot_trie node.spot ≡ trie_at p (tree_trie tree))
-  table_at made = elim stands.there [
-    | inl none ↦ absurd (false≢true (rw none at made))
-    | inr there ↦ (spot_made node.count node.spot there.1 (rw (there.0) made), there.0)
-  ]
+  table_at made = grind (arith, stands.there, spot_made node.count node.spot)
 
 -- a node that headers made
 pub made_at : (sections : List Section) (tree : Tree) (node : Node) (p : Path) → IsResolved sections tree

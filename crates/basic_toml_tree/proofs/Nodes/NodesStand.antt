@@ -1,5 +1,5 @@
 -- A node below another one stands at the path of that one and one more step.
-use Rattle.std.proofs.Common.{◌≡◌, ◌⊎◌, inl, inr, ◌==◌, ℕ, Bool, true, false, List, [], ◌∷◌}
+use Rattle.std.proofs.Common.{◌≡◌, ◌⊎◌, inl, ◌==◌, ℕ, Bool, true, false, List, [], ◌∷◌}
 use Rattle.std.proofs.Common.{◌++◌, Some, refl, ap, sym, ◌∙◌, arith, rules, Vec, Global}
 use Rattle.std.specs.Prelude.{slice_get, ◌≤◌, Option, IfSome, IfNone, MatchOption, length, None}
 use Rattle.std.specs.Option.{option_and_then}
@@ -62,10 +62,7 @@ StepsOn from s node = IsOf (below s (spot_trie from.spot)) node
 -- one step on from a node
 pub further : (from node : Node) (s : Step) → (wraps_table from.spot ≡ false → StepsOn from s node) → (tree : Tree)
     (p : Path) → StandsAt tree p from → Further tree (p ++ s ∷ []) node
-further from node s more tree p stands = elim stands.there [
-  | inl none ↦ inl (at_more p s (tree_trie tree) ∙ ap (below s) none)
-  | inr there ↦ rw (at_more p s (tree_trie tree), ← (there.0)) (more there.1)
-]
+further from node s more tree p stands = grind (arith, at_more p s (tree_trie tree), stands.there, more)
 
 module _ (from node : Node) (s : Step) (same : node.tree ≡ from.tree)
     (read : data_by s (node_data from) ≡ Some (node_data node))
@@ -101,12 +98,7 @@ tells_table _ = false
 pub no_array_root : (from : Node) (tree : Tree) (p : Path) → StandsAt tree p from
     → tells_table (spot_trie from.spot) ≡ false → is_root p ≡ false
 no_array_root from tree (s ∷ p) stands array = refl
-no_array_root from tree [] stands array =
-    let root : tells_table (tree_trie tree) ≡ true = ap tells_table (table_entries_trie tree.root) in
-    elim stands.there [
-      | inl none ↦ sym root ∙ ap tells_table none
-      | inr there ↦ sym root ∙ ap tells_table (sym there.0) ∙ array
-    ]
+no_array_root from tree [] stands array = grind (arith, stands.there, table_entries_trie tree.root)
 
 -- A node beside an array, with the keys of it and the same table around, is that of an element.
 pub beside_stands : (from node : Node) (here : Spot) (n : ℕ) → IsBeside from here node

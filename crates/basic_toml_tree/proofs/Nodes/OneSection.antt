@@ -2,7 +2,7 @@
 -- something at a key of a table that headers made, or below it, they are rows of one section: those of two would clash.
 use Rattle.std.proofs.Common.{◌≡◌, ◌⊎◌, inl, inr, ℕ, true, false, List, [], ◌∷◌, ◌++◌, Option, Some, None, refl, sym}
 use Rattle.std.proofs.Common.{◌∙◌, arith, ◌+◌, zero, suc, Bool, ap, slice_get, append_assoc, length, drop}
-use Rattle.std.proofs.lemmas.Bool.{false≢true, false_from_ne_true, and_parts, or_parts, cases_Bool}
+use Rattle.std.proofs.lemmas.Bool.{false≢true, and_parts, or_parts, cases_Bool}
 use Rattle.basic_toml_grammar.specs.Sections.{KeyTexts, texts, Raw, Rows, no_rows, Key, row}
 use Rattle.basic_toml_grammar.specs.Steps.{Step, key, Path, step_eq, begins, steps_of, number}
 use Rattle.basic_toml_grammar.specs.IndexedPath.{Located}
@@ -81,9 +81,7 @@ not_ended : (w : Path) (k : Key) (ks : List Key) (at : ℕ) (v : Raw) (rows : Ro
 not_ended w k ks at v rows y (inl none) = rw none refl
 not_ended w k ks at v rows y (inr gone) =
     let steps = steps_of (texts (k ∷ ks)) in
-    let free = (or_parts _ _ (or_parts _ _ gone.2).0).0 in
-    false_from_ne_true _ (λ e. false≢true (sym free ∙ goes_on (w ++ steps) (w ++ y) gone.0.path
-    (begins_on w steps y ∙ e) gone.1))
+    grind (arith, gone.1, gone.2, goes_on (w ++ steps) (w ++ y) gone.0.path, begins_on w steps y)
 
 pub rows_over : (w : Path) (rows : Rows) (y : Path) (s : Step) → keyed_within rows ≡ true → GoneOn w rows y
     → ((n : ℕ) (r : Path) → rows_origins n rows (y ++ s ∷ r) ≡ None) ⊎ Over w rows y s
