@@ -136,8 +136,7 @@ count_keeps from node k counts tree p stands sections resolved =
 
 -- and where a row put what is there
 pub any_count : (spot : Spot) (count : ℕ) → (count == 0) ≡ false → spot_is_made 1 spot ≡ spot_is_made count spot
-any_count (spots.Table b) count some = rw some refl
-any_count spot count some = refl
+any_count spot count some = grind arith
 
 -- what is kept of the keys that lead to an entry of a table
 module _ {from node : Node} {k : List ℕ} {c : Child} (is : IsEntry from k c node) (tree : Tree) (p : Path)

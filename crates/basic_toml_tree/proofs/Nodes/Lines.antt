@@ -6,7 +6,7 @@ use Rattle.std.specs.Prelude.{◌&&◌, if◌then◌else◌}
 use Rattle.std.specs.List.{list_any}
 use Rattle.std.proofs.Math.Bool.{and-false, and-true}
 use Rattle.std.proofs.Math.Seq.{drop-append_seam}
-use Rattle.std.proofs.lemmas.Bool.{false≢true, and_parts, or_parts, or_right, cases_Bool, false_from_ne_true}
+use Rattle.std.proofs.lemmas.Bool.{false≢true, or_parts, or_right, cases_Bool, false_from_ne_true}
 use Rattle.basic_toml_grammar.specs.Sections.{KeyTexts, Raw}
 use Rattle.basic_toml_grammar.specs.Steps.{Step, key, number, Path, begins, overlap, steps_of}
 use Rattle.basic_toml_grammar.specs.Nodes.{Node, front, dotted_node, node_in}
@@ -93,8 +93,7 @@ front_short (s ∷ t ∷ p) e = rw step_same (front_short (t ∷ p) e)
 pub goes_by : (p q : Path) → begins p q ≡ true → q ≡ p ++ drop (length p) q
 goes_by [] q e = refl
 goes_by (s ∷ p) [] e = absurd (false≢true e)
-goes_by (s ∷ p) (t ∷ q) e =
-    let both = and_parts _ _ e in rw (step_is s t both.0) (ap (λ q. t ∷ q) (goes_by p q both.1))
+goes_by (s ∷ p) (t ∷ q) e = grind (arith, step_is s t, goes_by p q)
 
 -- a row, with the path of its table
 pub record Line : Type 0 where

@@ -1,6 +1,6 @@
 -- What headers made, as the tree has it and as the section list foretells it.
-use Rattle.std.proofs.Common.{arith, ◌≡◌, inl, inr, ◌==◌, ℕ, Bool, true, false, List, [], ◌∷◌, refl, ap}
-use Rattle.std.proofs.Common.{sym, ◌∙◌, map, codes}
+use Rattle.std.proofs.Common.{arith, ◌≡◌, inl, inr, ◌==◌, ℕ, Bool, true, false, List, [], ◌∷◌, refl, ap, sym, ◌∙◌, map}
+use Rattle.std.proofs.Common.{codes}
 use Rattle.std.specs.Prelude.{if◌then◌else◌}
 use Rattle.std.proofs.lemmas.Bool.{false≢true}
 use Rattle.basic_toml_grammar.specs.Sections.{Section}
@@ -20,13 +20,11 @@ use Rattle.basic_toml_tree.specs.HeaderTables.{table_of}
 use Rattle.basic_toml_tree.specs.Origin.{spot_is_made, is_made, spot_name, last_at, spot_is_borrowed}
 use Rattle.basic_toml_tree.specs.FirstStop.{Stands, only_root}
 use Rattle.basic_toml_tree.specs.Resolve.{IsResolved, head}
-use Rattle.basic_toml_tree.specs.Stands.{trie_at, tree_trie, spot_trie, wraps_table, is_root, IsNodeAt}
-use Rattle.basic_toml_tree.specs.Stands.{StandsAt}
+use Rattle.basic_toml_tree.specs.Stands.{trie_at, tree_trie, spot_trie, wraps_table, is_root, IsNodeAt, StandsAt}
 use Rattle.basic_toml_tree.specs.Outer.{stands_made}
 use Rattle.basic_toml_tree.proofs.HeadersMake.{made_is, array_is}
 use Rattle.basic_toml_grow.proofs.ItemTries.{table_entries_trie}
 use Rattle.basic_toml_grow.proofs.ItemsStand.{stands_array, standing_here}
-use Rattle.basic_toml_tree.proofs.Nodes.NodesStand.{tells_table}
 use Rattle.basic_toml_tree.specs.declared.tree.Tree.{Tree}
 
 same_way : (p : Path) (t : Trie) → trie_at p t ≡ descend p t
@@ -83,12 +81,15 @@ module _ (tree : Tree) (node : Node) (p : Path) (stands : StandsAt tree p node) 
   pub root_at : p ≡ [] → IsMade node.count node.spot × (spot_trie node.spot ≡ trie_at p (tree_trie tree))
   root_at is =
       let here : trie_at p (tree_trie tree) ≡ table_trie tree.root = rw is refl in
-      let table : tells_table (table_trie tree.root) ≡ true = ap tells_table (table_entries_trie tree.root) in
-      elim stands.there [
-        | inl none ↦ absurd (false≢true (sym (ap tells_table (sym here ∙ none)) ∙ table))
-        | inr there ↦
-            (root_made node.count node.spot tree.root there.1 (stands.root ∙ ap is_root is) (there.0 ∙ here), there.0)
-      ]
+      grind (
+        arith,
+        here,
+        stands.there,
+        stands.root,
+        ap is_root is,
+        table_entries_trie tree.root,
+        root_made node.count node.spot tree.root,
+      )
 
   pub table_at : stands_made (standing (trie_at p (tree_trie tree))) ≡ true
       → IsMade node.count node.spot × (spot_trie node.spot ≡ trie_at p (tree_trie tree))

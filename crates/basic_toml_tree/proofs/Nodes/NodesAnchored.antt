@@ -1,6 +1,6 @@
 -- What a node is found by again is an anchor of what is at its path.
-use Rattle.std.proofs.Common.{◌≡◌, ◌==◌, ℕ, Bool, true, false, List, [], ◌∷◌, Option, Some, None, length, arith}
-use Rattle.std.proofs.Common.{refl, sym, ◌∙◌, inl, inr}
+use Rattle.std.proofs.Common.{◌≡◌, ◌==◌, ℕ, Bool, true, false, List, [], Option, Some, None, length, arith, refl}
+use Rattle.std.proofs.Common.{sym, ◌∙◌, inl, inr}
 use Rattle.std.specs.Prelude.{IsSomeAnd, if◌then◌else◌}
 use Rattle.std.proofs.lemmas.Bool.{false≢true, cases_Bool}
 use Rattle.basic_toml_grammar.specs.Sections.{Section}
@@ -18,16 +18,14 @@ use Rattle.basic_toml_tree.specs.declared.node.Node.{Node}
 use Rattle.basic_toml_tree.specs.declared.spot.Spot.{Spot}
 use Rattle.basic_toml_tree.specs.declared.spot.Spot.TheVariants as spots
 use Rattle.basic_toml_tree.specs.HeaderTables.{table_of}
-use Rattle.basic_toml_tree.specs.Origin.{spot_is_made, spot_section, spot_anchor, anchor_of}
-use Rattle.basic_toml_tree.specs.Origin.{start_of, is_made}
+use Rattle.basic_toml_tree.specs.Origin.{spot_is_made, spot_section, spot_anchor, anchor_of, start_of, is_made}
 use Rattle.basic_toml_tree.specs.Stands.{IsNodeAt, is_root, spot_trie, tree_origins}
 use Rattle.basic_toml_tree.proofs.Foretold.NodesForetold.{made_foretold, start_foretold}
 use Rattle.basic_toml_tree.proofs.Nodes.KeysTold.{any_count, has_section, marked_at, section_leads}
 use Rattle.basic_toml_tree.proofs.Nodes.MadeNodes.{is_told}
 
 no_steps : (p : Path) → is_root p ≡ true → p ≡ []
-no_steps [] root = refl
-no_steps (s ∷ p) root = absurd (false≢true root)
+no_steps p root = grind arith
 
 said : {A : Type 0} (o : Option A) (P : Type 0) → IsSomeAnd o (λ x. P) → P
 said None P some = absurd some

@@ -34,8 +34,7 @@ module _ (ls : List Located) (last : Option ℕ) where
   rows_lines l (row ks at v rows) p = rw (rows_lines l rows p) refl
 
 one_none : (n : Option Node) → option_or n None ≡ n
-one_none None = refl
-one_none (Some n) = refl
+one_none n = grind arith
 
 module _ (holder : Path → Option ℕ) (p : Path) where
   -- below a line no other one leads to anything
