@@ -1,5 +1,4 @@
 -- The nodes of a tree: where they stand, and what they are by the section list.
-pub mod WhatIsThere
 pub mod NodesInOrder
 pub mod NodesStand
 pub mod NodesCome
@@ -18,9 +17,7 @@ pub mod FewKeys
 pub mod KeysLead
 pub mod KeysTold
 pub mod RowKeys
-pub mod RowsReach
 pub mod OneSection
 pub mod NodesAnchored
 pub mod RowNodes
 pub mod EntryNodes
-pub mod SectionNodes

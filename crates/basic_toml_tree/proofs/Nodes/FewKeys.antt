@@ -17,8 +17,7 @@ use Rattle.basic_toml_tree.specs.Resolve.{IsResolved}
 
 keys_within : (p : Path) → length (keys_of p) ≤ length p
 keys_within [] = omega arith
-keys_within (key k ∷ p) = omega (arith, keys_within p)
-keys_within (number n ∷ p) = omega (arith, keys_within p)
+keys_within (s ∷ p) = grind (arith, keys_within p)
 
 -- what is below data is less deep
 item_depth : (ds : Items) (n : ℕ) (d : Data) → slice_get (listed ds) n ≡ Some d → depth d ≤ depth_of_items ds

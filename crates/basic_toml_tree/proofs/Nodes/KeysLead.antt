@@ -1,8 +1,8 @@
--- Headers that begin with keys.
-use Rattle.std.proofs.Common.{◌≡◌, ◌⊎◌, inl, inr, ◌≤◌, ◌<◌, ℕ, true, false, List, [], ◌∷◌, ◌++◌, length, map, min}
-use Rattle.std.proofs.Common.{take, Some, refl, ap, sym, ◌∙◌, arith, get_or}
+-- What a node keeps of the keys of headers and rows that lead to it.
+use Rattle.std.proofs.Common.{arith, ◌≡◌, ◌⊎◌, inl, inr, ◌<◌, ℕ, true, false, List, [], ◌∷◌, ◌++◌, length, map, take}
+use Rattle.std.proofs.Common.{Some, refl, ap, sym, ◌∙◌, get_or}
 use Rattle.std.specs.Prelude.{slice_get, IfSome}
-use Rattle.std.proofs.lemmas.List.{length-map, length-take, get_or-take, get_or_past}
+use Rattle.std.proofs.lemmas.List.{length-map, get_or-take}
 use Rattle.std.proofs.lemmas.Option.{IfSome_then, get_or_from_slice_get}
 use Rattle.basic_toml_grammar.specs.IndexedPath.{Located, located}
 use Rattle.basic_toml_grammar.specs.Nodes.{is_made}
@@ -17,8 +17,7 @@ use Rattle.basic_toml_tree.specs.Resolve.{IsResolved}
 use Rattle.basic_toml_tree.specs.Stands.{StandsAt, IsBeside, tree_origins}
 use Rattle.basic_toml_tree.specs.declared.node.Node.{Node}
 use Rattle.basic_toml_tree.specs.declared.spot.Spot.{Spot}
-use Rattle.basic_toml_tree.specs.declared.trail.Trail.{Trail}
-use Rattle.basic_toml_tree.specs.declared.trail.Trail.TheVariants.{Header, Row}
+use Rattle.basic_toml_tree.specs.declared.trail.Trail.TheVariants.{Header}
 use Rattle.basic_toml_tree.proofs.HeadersMake.{any_of, of_any}
 use Rattle.basic_toml_tree.proofs.Nodes.NodesInOrder.{mapped_read, read_mapped}
 use Rattle.basic_toml_tree.proofs.Origins.RowsAreNodes.{begins_front}
@@ -33,16 +32,11 @@ pub key_there : (keys : List Key) (n : ℕ) (k : Key) → n < length keys → k 
 key_there keys n k within read =
     read_mapped (λ k. k.text) (map key_of keys) n (key_of k) (mapped_read key_of keys n k within read)
 
--- the key at a number of the first so many, and past the last of them
+-- the key at a number of the first so many
 pub among_first : (keys : KeyTexts) (count n : ℕ) (k found : List ℕ) → n < count → slice_get keys n ≡ Some found
     → found ≡ get_or (take count keys) n k
 among_first keys count n k found within there =
     sym (get_or-take count keys n k within ∙ get_or_from_slice_get keys n found k there)
-
-pub past_first : (keys : KeyTexts) (count n : ℕ) (k : List ℕ) → min count (length keys) ≤ n
-    → k ≡ get_or (take count keys) n k
-past_first keys count n k past =
-    sym (get_or_past (take count keys) n k (omega (arith, length-take count keys, past)))
 
 -- what headers made below a path, and at it
 pub made_before : (ls : List Located) (p : Path) (s : Step) → is_made ls (p ++ s ∷ []) ≡ true → is_made ls p ≡ true
@@ -89,11 +83,7 @@ last_step p q s t r same = elim (compare p (s ∷ []) q (t ∷ r) same) [ inl on
 -- a node that hands on what is kept keeps the same row
 row_on : (from node : Node) → HandsOn from node.trail → (tree : Tree) (n : ℕ) (keys : KeyTexts) (k : List ℕ)
     → KeepsRow tree n keys k from.trail → KeepsRow tree n keys k node.trail
-row_on from node hands tree n keys k kept = go from.trail refl kept
-  where
-    go : (t : Trail) → from.trail ≡ t → KeepsRow tree n keys k t → KeepsRow tree n keys k node.trail
-    go (Header m) is kept = absurd kept
-    go (Row m first) is kept = rw (hands m first is, is) kept
+row_on from node hands tree n keys k kept = grind arith
 
 -- one step on from a table that headers made, the row is kept that put there what is there
 abbrev pub BeginsAt : Tree → Path → Step → Node → Type 0

@@ -1,14 +1,14 @@
 -- The keys that lead to a node, as the tree has them and as the section list foretells them.
 use Rattle.std.proofs.Common.{◌≡◌, inl, inr, ℕ, zero, suc, true, false, List, [], ◌∷◌, ◌++◌, length, map, take}
-use Rattle.std.proofs.Common.{get_or, Option, Some, None, refl, ap, sym, ◌∙◌, subst, arith, length-append, append_assoc}
+use Rattle.std.proofs.Common.{get_or, Option, Some, None, refl, ap, sym, ◌∙◌, arith, length-append, append_assoc}
 use Rattle.std.specs.Prelude.{◌==◌, slice_get, IfSome, IsSomeAnd}
-use Rattle.std.proofs.lemmas.Bool.{false≢true, and_parts, and_from, cases_Bool}
-use Rattle.std.proofs.lemmas.List.{take_all}
+use Rattle.std.proofs.lemmas.Bool.{false≢true, and_parts, cases_Bool}
+use Rattle.std.proofs.lemmas.List.{append_cancel_left, take_all}
+use Rattle.std.proofs.lemmas.Option.{IfSome_then}
 use Rattle.std.proofs.lemmas.Slice.Eq.{bytes_eq-Decides}
 use Rattle.basic_toml_grammar.specs.Sections.{KeyTexts, texts, Section}
 use Rattle.basic_toml_grammar.specs.Steps.{Step, key, number, Path, begins, steps_of, keys_of}
 use Rattle.basic_toml_grammar.specs.IndexedPath.{Located, located_after, located_from, located}
-use Rattle.basic_toml_grammar.specs.Trie.{standing}
 use Rattle.basic_toml_grammar.specs.Nodes as grammar
 use Rattle.basic_toml_grammar.proofs.Clash.PathsAgree.{append_none, count_in, keys-append, keys_cut, cuts_are}
 use Rattle.basic_toml_grammar.proofs.Clash.PathsAgree.{counts_are}
@@ -21,24 +21,20 @@ use Rattle.basic_toml_grow.specs.declared.item.Table.{Table, out-Table}
 use Rattle.basic_toml_tree.specs.declared.spot.Spot.{Spot}
 use Rattle.basic_toml_tree.specs.declared.spot.Spot.TheVariants as spots
 use Rattle.basic_toml_tree.specs.declared.trail.Trail.{Trail}
-use Rattle.basic_toml_tree.specs.declared.trail.Trail.TheVariants.{Header, Row}
 use Rattle.basic_toml_grow.specs.Origins.{Origin, Origins, child_origins}
-use Rattle.basic_toml_grow.specs.Ways.{sections_origins}
 use Rattle.basic_toml_tree.proofs.Nodes.NodesCome.{child_bears}
-use Rattle.basic_toml_tree.proofs.Nodes.RowKeys.{Both, FoundIn, sections_found}
-use Rattle.basic_toml_tree.proofs.Nodes.OneSection.{stands_before, entry_bears, Entry}
-use Rattle.basic_toml_tree.proofs.Nodes.RowNodesTold.{no_clash, not_led, rows_free, rows_keyed, some_both, told_same}
-use Rattle.basic_toml_tree.proofs.Origins.RowsAreNodes.{Same, of_node, of_origin}
+use Rattle.basic_toml_tree.proofs.Nodes.RowKeys.{GivenBy, sections_give}
+use Rattle.basic_toml_tree.proofs.Nodes.OneSection.{entry_at}
+use Rattle.basic_toml_tree.proofs.Nodes.RowNodesTold.{no_clash, not_led, rows_free, rows_keyed, some_both}
 use Rattle.basic_toml_tree.specs.Headers.{keys_at}
 use Rattle.basic_toml_tree.specs.HeaderTables.{table_of}
 use Rattle.basic_toml_tree.specs.Origin.{header_of, spot_is_made, spot_section, item_section, holds_tables}
 use Rattle.basic_toml_tree.specs.Origin.{keys_of as kept_keys, trail_keys}
 use Rattle.basic_toml_origin.specs.Anchor.{LeadsTo}
 use Rattle.basic_toml_tree.specs.Resolve.{IsResolved, ComesFromHeaders, head}
-use Rattle.basic_toml_tree.specs.Stands.{trie_at, tree_trie, is_root, StandsAt, IsEntry, IsNodeAt, tree_origins}
+use Rattle.basic_toml_tree.specs.Stands.{tree_trie, is_root, StandsAt, IsEntry, IsNodeAt, tree_origins}
 use Rattle.basic_toml_tree.specs.Keys.{header_at, Leads, KeepsHeader, CountsKeys, KeysLead, CountsOn, KeepsRow}
 use Rattle.basic_toml_tree.specs.Keys.{RowsLead}
-use Rattle.basic_toml_tree.specs.Outer.{stands_made}
 use Rattle.basic_toml_tree.proofs.Nodes.KeysLead.{KeepsKeys, made_before, rows_on}
 use Rattle.basic_toml_tree.specs.Nodes.{node_data}
 use Rattle.basic_toml_tree.proofs.Nodes.FewKeys.{few_keys}
@@ -55,8 +51,7 @@ located_keys s before =
 -- keys of a path that begins another
 begins_keys : (p q : Path) → begins p q ≡ true → begins (steps_of (keys_of p)) (steps_of (keys_of q)) ≡ true
 begins_keys [] q e = refl
-begins_keys (key k ∷ p) (key l ∷ q) e =
-    let both = and_parts _ _ e in and_from _ _ both.0 (begins_keys p q both.1)
+begins_keys (key k ∷ p) (key l ∷ q) e = grind (arith, begins_keys p q)
 begins_keys (number n ∷ p) (number m ∷ q) e = begins_keys p q (and_parts _ _ e).1
 begins_keys p q e = absurd (false≢true e)
 
@@ -65,26 +60,20 @@ first_are : (keys header : KeyTexts) → begins (steps_of keys) (steps_of header
     → take (length keys) header ≡ keys
 first_are [] header e = refl
 first_are (k ∷ keys) [] e = absurd (false≢true e)
-first_are (k ∷ keys) (l ∷ header) e =
-    let both = and_parts _ _ e in
-    rw ((bytes_eq-Decides k l).0 both.0) (ap (λ keys. l ∷ keys) (first_are keys header both.1))
-
--- a header of the list that leads to what headers made
-abbrev header_in : List Section → ℕ → KeyTexts
-header_in ss n = header_of (keys_at (map head ss) n)
-
--- the headers that the tree keeps are those of the list
-heads_at : (sections : List Section) (tree : Tree) → IsResolved sections tree → (n : ℕ)
-    → header_at tree n ≡ header_in sections n
-heads_at sections tree resolved n = ap (λ headers. header_of (keys_at headers n)) resolved.heads
+first_are (k ∷ keys) (l ∷ header) e = grind (arith, bytes_eq-Decides k l, first_are keys header)
 
 -- the sections of the list where they stand
 located_at : (before ss : List Section) (n : ℕ) (l : Located) → slice_get (located_from before ss) n ≡ Some l
-    → (header_in ss n ≡ texts l.section.header) × (keys_of l.path ≡ texts l.section.header)
+    → (header_of (keys_at (map head ss) n) ≡ keys_of l.path) × (keys_of l.path ≡ texts l.section.header)
 located_at before [] n l there = absurd (cc)
-located_at before (s ∷ ss) zero l there =
-    let is : located_after before s ≡ l = cc in (rw (← is) refl, rw (← is) (located_keys s before))
+located_at before (s ∷ ss) zero l there = grind (arith, located_keys s before)
 located_at before (s ∷ ss) (suc n) l there = located_at (s ∷ before) ss n l there
+
+-- the headers that the tree keeps are those of the list
+header_is : (sections : List Section) (tree : Tree) → IsResolved sections tree → (n : ℕ) (l : Located)
+    → slice_get (located sections) n ≡ Some l
+    → (header_at tree n ≡ keys_of l.path) × (keys_of l.path ≡ texts l.section.header)
+header_is sections tree resolved n l there = rw (resolved.heads) (located_at [] sections n l there)
 
 -- a section whose header leads to a path begins with its keys
 header_leads : (sections : List Section) (tree : Tree) → IsResolved sections tree → (n : ℕ) (p : Path)
@@ -94,14 +83,16 @@ header_leads sections tree resolved n p leads = go (slice_get (located sections)
     go : (o : Option Located) → slice_get (located sections) n ≡ o → IsSomeAnd o (λ l. begins p l.path ≡ true)
         → Leads tree (keys_of p) n
     go None is leads = absurd leads
-    go (Some l) is leads =
-        let at = located_at [] sections n l is in
-        rw (heads_at sections tree resolved n, at.0, ← (at.1)) (begins_keys p l.path leads)
+    go (Some l) is leads = rw ((header_is sections tree resolved n l is).0) (begins_keys p l.path leads)
 
-made_spot : (node : Node) (tree : Tree) (q : Path) → stands_made (standing (trie_at q (tree_trie tree))) ≡ true
-    → Further tree q node → spot_is_made 1 node.spot ≡ true
-made_spot node tree q made (inl none) = absurd (false≢true (rw none at made))
-made_spot node tree q made (inr there) = (spot_made 1 node.spot there.1 (rw (there.0) made)).made
+-- a node one step on from a table, where headers made something
+pub made_below : (sections : List Section) (tree : Tree) → IsResolved sections tree → (p : Path) (k : List ℕ)
+    (node : Node) → Further tree (p ++ key k ∷ []) node
+    → grammar.is_made (located sections) (p ++ key k ∷ []) ≡ true → spot_is_made 1 node.spot ≡ true
+made_below sections tree resolved p k node there made =
+    let stands = sym (made_in_trie sections (tree_trie tree) resolved.stands (p ++ key k ∷ []) (no_root p (key k)))
+    ∙ made in
+    grind (arith, there, stands, spot_made 1 node.spot)
 
 -- the keys that a node keeps
 kept_first : (from : Node) (tree : Tree) (p : Path) → from.tree.now ≡ tree → from.count ≡ length (keys_of p)
@@ -144,9 +135,8 @@ count_keeps from node k counts tree p stands sections resolved =
     ∙ rw (before, keys-append p (key k ∷ []), length-append (keys_of p) (k ∷ [])) refl
 
 -- and where a row put what is there
-any_count : (spot : Spot) (count : ℕ) → (count == 0) ≡ false → spot_is_made 1 spot ≡ spot_is_made count spot
-any_count (spots.Table b) count some = rw some refl
-any_count spot count some = refl
+pub any_count : (spot : Spot) (count : ℕ) → (count == 0) ≡ false → spot_is_made 1 spot ≡ spot_is_made count spot
+any_count spot count some = grind arith
 
 -- what is kept of the keys that lead to an entry of a table
 module _ {from node : Node} {k : List ℕ} {c : Child} (is : IsEntry from k c node) (tree : Tree) (p : Path)
@@ -155,11 +145,9 @@ module _ {from node : Node} {k : List ℕ} {c : Child} (is : IsEntry from k c no
   header_keeps there sections resolved made =
       let path = p ++ key k ∷ [] in
       let before = stands.keys sections resolved (made_before (located sections) p (key k) made) in
-      let below = no_root p (key k) in
-      let spot = made_spot node tree path
-      (sym (made_in_trie sections (tree_trie tree) resolved.stands path below) ∙ made) there in
-      let section = has_section node.spot spot in
-      let has = rw here at (marked_at (located sections) (tree_origins tree) resolved.marks path below made) in
+      let section = has_section node.spot (made_below sections tree resolved p k node there made) in
+      let has = rw here at (marked_at (located sections) (tree_origins tree) resolved.marks path (no_root p (key k))
+      made) in
       record {
         section = section.0;
         trail = rw (section.1) at is.keys before.section before.trail;
@@ -190,25 +178,17 @@ made_keys sections p node is made =
     rw (kept.trail) (kept_first node node.tree.now p refl (is.stands.count sections is.resolved) kept)
 
 -- the key after those of a path that begins another
-get_past : (before keys : KeyTexts) (k : List ℕ) → get_or (before ++ keys) (length before) k ≡ get_or keys 0 k
-get_past [] keys k = refl
-get_past (l ∷ before) keys k = get_past before keys k
-
-first_after : (y r others : Path) (k l : List ℕ) → y ++ key k ∷ r ≡ key l ∷ others → get_or (keys_of y) 0 k ≡ l
-first_after [] r others k l same = cc
-first_after (s ∷ y) r others k l same =
-    let is : s ≡ key l = cc in rw is refl
-
-key_after : (q w y r others : Path) (k l : List ℕ) → q ≡ w ++ y → y ++ key k ∷ r ≡ key l ∷ others
-    → get_or (keys_of q) (length (keys_of w)) k ≡ l
-key_after q w y r others k l at same =
-    rw (at, keys-append w y, get_past (keys_of w) (keys_of y) k) (first_after y r others k l same)
+key_after : (w y r others : Path) (k l : List ℕ) → y ++ key k ∷ r ≡ key l ∷ others
+    → get_or (keys_of (w ++ y)) (length (keys_of w)) k ≡ l
+key_after [] [] r others k l same = cc
+key_after [] (s ∷ y) r others k l same = let is : s ≡ key l = cc in rw is refl
+key_after (key h ∷ w) y r others k l same = key_after w y r others k l same
+key_after (number n ∷ w) y r others k l same = key_after w y r others k l same
 
 row_keys : (tree : Tree) (n count : ℕ) (keys : KeyTexts) (k : List ℕ) (trail : Trail) → KeepsRow tree n keys k trail
     → trail_keys tree.headers count trail
     ≡ header_at tree n ++ get_or keys (length (header_at tree n)) k ∷ []
-row_keys tree n count keys k (Header m) kept = absurd kept
-row_keys tree n count keys k (Row m first) kept = rw (kept.0, kept.1) refl
+row_keys tree n count keys k trail kept = grind arith
 
 -- the last that headers made on the way to a path, and the step on from it
 record LastMade (ls : List Located) (p : Path) : Type 0 where
@@ -235,52 +215,42 @@ module _ (sections : List Section) (node : Node) (p : Path) (is : IsNodeAt secti
     abbrev SaysKeys : grammar.Node → Type 0
     SaysKeys found = trail_keys node.tree.now.headers node.count node.trail ≡ found.key_path
 
-    unmade : (m : Option grammar.Node) (x : Origin) → Same m (Some x) → x.made ≡ false
-    unmade None x same = absurd (cc)
-    unmade (Some m) x same = let both : of_node m ≡ of_origin x = cc in sym (ap (λ t. t.made) both)
-
-    told_row : (q : Path) (s : Step) (r : Path) → p ≡ q ++ s ∷ r → grammar.is_made (located sections) q ≡ true
-        → grammar.is_made (located sections) (q ++ s ∷ []) ≡ false → (m : Option grammar.Node) (o : Option Origin)
-        → Same m o → Both m o (FoundIn 0 (located sections) p)
-        → IfSome o (Entry q s 0 (located sections)) → IfSome m SaysKeys
-    told_row q s r path made apart None o same found entry = tt
-    told_row q s r path made apart (Some m) None same found entry = absurd (cc)
-    told_row q s r path made apart (Some m) (Some o) same found entry =
+    told_row : (m : grammar.Node) → GivenBy (located sections) p m → SaysKeys m
+    told_row m given =
         let ls = located sections in
         let tree = node.tree.now in
-        let k = entry.0 in
-        let x = entry.2 in
-        let step : s ≡ key k = entry.1 in
-        let at = located_at [] sections found.number found.located found.there in
-        let number : x.section ≡ found.number = omega (arith, found.section, entry.4) in
-        let header : header_at tree x.section ≡ texts found.located.section.header =
-        ap (header_at tree) number ∙ heads_at sections tree is.resolved found.number ∙ at.0 in
-        let here : tree_origins tree (q ++ key k ∷ []) ≡ Some x =
-        rw (← step, is.resolved.origins (q ++ s ∷ []) apart) entry.3 in
-        let own : x.made ≡ false =
-        unmade _ x (rw (entry.3) at (told_same sections is.resolved (q ++ s ∷ []) apart)) in
-        let rows = rw here at (is.stands.rows sections is.resolved q k r (path ∙ rw step refl) made) in
-        let before = stands_before ls q s (not_led ls (q ++ s ∷ []) apart) found.number found.located found.there r
-        (key found.row.first ∷ found.row.others) (sym path ∙ found.row.path) in
+        let row = given.3 in
+        let by = made_from ls [] p refl not in
+        let step = by.before ++ by.step ∷ [] in
+        let entry = entry_at ls (no_clash sections is.resolved).1 (rows_keyed sections is.resolved) by.before by.step
+        by.made (not_led ls step by.not) given.0 given.1 given.2 by.rest (rw (by.is) at row.told) in
+        let k = entry.key_is.0 in
+        let l = given.1 in
+        let at = header_is sections tree is.resolved given.0 l given.2 in
+        let path : p ≡ by.before ++ key k ∷ by.rest =
+        by.is ∙ ap (λ s. by.before ++ s ∷ by.rest) entry.key_is.1 in
+        let here : tree_origins tree (by.before ++ key k ∷ []) ≡ Some entry.told.0 =
+        ap (λ s. tree_origins tree (by.before ++ s ∷ [])) (sym entry.key_is.1)
+        ∙ is.resolved.origins step by.not ∙ entry.told.1 in
+        let rows = rw here at (is.stands.rows sections is.resolved by.before k by.rest path by.made) in
+        let y = entry.before in
+        let same = append_cancel_left l.path (y.0 ++ key k ∷ by.rest) (key row.first ∷ row.others)
+        (sym (append_assoc l.path y.0 (key k ∷ by.rest)) ∙ ap (λ w. w ++ key k ∷ by.rest) (sym y.1) ∙ sym path
+        ∙ row.path) in
         rw (
-          row_keys tree x.section node.count (keys_of q) k node.trail (rows own),
-          header,
-          ← (at.1),
-          key_after q found.located.path before.0 r found.row.others k found.row.first before.1 (rw (← step) before.2),
+          row_keys tree given.0 node.count (keys_of by.before) k node.trail
+              (rw (entry.told.2) at (rows entry.told.3)),
+          at.0,
+          ap (λ q. get_or (keys_of q) (length (keys_of l.path)) k) y.1,
+          key_after l.path y.0 by.rest row.others k row.first same,
           at.1,
         )
-        (sym found.row.keys)
+        (sym row.keys)
 
     pub row_keys_told : IfSome (grammar.node_at sections p) (λ found. kept_keys node ≡ found.key_path)
     unfolding kept_keys
     row_keys_told =
         let ls = located sections in
         let last = grammar.last_at sections in
-        let by = made_from ls [] p refl not in
-        rw not (told_row by.before by.step by.rest by.is by.made by.not (grammar.node_of_sections ls last ls p)
-        (sections_origins 0 ls p) (told_same sections is.resolved p not)
-        (sections_found ls last 0 ls p (not_led ls p not) (rows_free sections is.resolved)
-        (rows_keyed sections is.resolved))
-        (subst (λ p. IfSome (sections_origins 0 ls p) (Entry by.before by.step 0 (located sections))) (sym by.is)
-        (entry_bears sections (no_clash sections is.resolved).1 is.resolved.within by.before by.step by.rest by.made
-        (not_led ls (by.before ++ by.step ∷ []) by.not))))
+        rw not (IfSome_then (grammar.node_of_sections ls last ls p) (sections_give ls last ls p (not_led ls p not)
+        (rows_free sections is.resolved) (rows_keyed sections is.resolved)) told_row)

@@ -1,14 +1,14 @@
 -- Rows as one list of lines, each with its whole path: which line a path leads to, and where the table around what
 -- stands there begins.
-use Rattle.std.proofs.Common.{◌≡◌, ℕ, Bool, true, false, List, [], ◌∷◌, ◌++◌, Option, Some, None, refl, ap, sym, ◌∙◌}
-use Rattle.std.proofs.Common.{length, drop, ◌⊎◌, inl, inr}
+use Rattle.std.proofs.Common.{arith, ◌≡◌, ℕ, Bool, true, false, List, [], ◌∷◌, ◌++◌, Option, Some, None, refl, ap, sym}
+use Rattle.std.proofs.Common.{◌∙◌, length, drop, ◌⊎◌, inl, inr}
 use Rattle.std.specs.Prelude.{◌&&◌, if◌then◌else◌}
 use Rattle.std.specs.List.{list_any}
 use Rattle.std.proofs.Math.Bool.{and-false, and-true}
 use Rattle.std.proofs.Math.Seq.{drop-append_seam}
-use Rattle.std.proofs.lemmas.Bool.{false≢true, and_parts, or_parts, or_right, cases_Bool, false_from_ne_true}
+use Rattle.std.proofs.lemmas.Bool.{false≢true, or_parts, or_right, cases_Bool, false_from_ne_true}
 use Rattle.basic_toml_grammar.specs.Sections.{KeyTexts, Raw}
-use Rattle.basic_toml_grammar.specs.Steps.{Step, key, number, Path, step_eq, begins, overlap, steps_of}
+use Rattle.basic_toml_grammar.specs.Steps.{Step, key, number, Path, begins, overlap, steps_of}
 use Rattle.basic_toml_grammar.specs.Nodes.{Node, front, dotted_node, node_in}
 use Rattle.basic_toml_grammar.proofs.AmongElements.{Among, first, next}
 use Rattle.basic_toml_grammar.proofs.Clash.PathsAgree.{append_none}
@@ -43,15 +43,10 @@ ends_in_keys : (p base : Path) (ks : KeyTexts) → begins p (base ++ steps_of ks
     → ends_key p ≡ true
 ends_in_keys [] base ks here not = absurd (false≢true (sym not))
 ends_in_keys (s ∷ p) [] [] here not = absurd (false≢true here)
-ends_in_keys (s ∷ []) [] (k ∷ ks) here not =
-    ap is_key (step_is s (key k) (and_parts _ _ here).0)
-ends_in_keys (s ∷ t ∷ p) [] (k ∷ ks) here not =
-    ends_in_keys (t ∷ p) [] ks (and_parts _ _ here).1 refl
-ends_in_keys (s ∷ []) (b ∷ base) ks here not =
-    let both = and_parts (step_eq s b) true here in absurd (false≢true (sym (rw (both.0) at not)))
-ends_in_keys (s ∷ t ∷ p) (b ∷ base) ks here not =
-    let both = and_parts (step_eq s b) (begins (t ∷ p) (base ++ steps_of ks)) here in
-    ends_in_keys (t ∷ p) base ks both.1 (rw (both.0) at not)
+ends_in_keys (s ∷ []) [] (k ∷ ks) here not = grind (arith, step_is s (key k))
+ends_in_keys (s ∷ t ∷ p) [] (k ∷ ks) here not = grind (arith, ends_in_keys (t ∷ p) [] ks)
+ends_in_keys (s ∷ []) (b ∷ base) ks here not = grind arith
+ends_in_keys (s ∷ t ∷ p) (b ∷ base) ks here not = grind (arith, ends_in_keys (t ∷ p) base ks)
 
 some_key : (p : Path) → ends_key p ≡ true → no_keys p ≡ false
 some_key [] e = absurd (false≢true e)
@@ -67,8 +62,7 @@ keys_both (number n ∷ p) x = keys_both p x
 around_front : (p x : Path) → ends_key p ≡ true → no_keys x ≡ true → around (p ++ x) ≡ front p
 around_front [] x e none = absurd (false≢true e)
 around_front (s ∷ []) x e none = rw none refl
-around_front (s ∷ t ∷ p) x e none =
-    rw (keys_both (t ∷ p) x, some_key (t ∷ p) e) (ap (λ q. s ∷ q) (around_front (t ∷ p) x e none))
+around_front (s ∷ t ∷ p) x e none = grind (arith, keys_both (t ∷ p) x, some_key (t ∷ p) e, around_front (t ∷ p) x)
 
 around_on : (p x : Path) → no_keys x ≡ false → around (p ++ x) ≡ p ++ around x
 around_on [] x e = refl
@@ -76,10 +70,7 @@ around_on (s ∷ p) x e = rw (keys_both p x, e, and-false (no_keys p)) (ap (λ q
 
 around_begins : (p : Path) → begins (around p) p ≡ true
 around_begins [] = refl
-around_begins (s ∷ p) = elim (cases_Bool (no_keys p)) [
-  | inl none ↦ rw none refl
-  | inr some ↦ rw (some, step_same) (around_begins p)
-]
+around_begins (s ∷ p) = grind (arith, step_same s, around_begins p)
 
 -- a step on from a path
 pub around_key : (p : Path) (k : List ℕ) → around (p ++ key k ∷ []) ≡ p
@@ -99,11 +90,10 @@ front_short [] e = absurd (false≢true e)
 front_short (s ∷ []) e = refl
 front_short (s ∷ t ∷ p) e = rw step_same (front_short (t ∷ p) e)
 
-goes_by : (p q : Path) → begins p q ≡ true → q ≡ p ++ drop (length p) q
+pub goes_by : (p q : Path) → begins p q ≡ true → q ≡ p ++ drop (length p) q
 goes_by [] q e = refl
 goes_by (s ∷ p) [] e = absurd (false≢true e)
-goes_by (s ∷ p) (t ∷ q) e =
-    let both = and_parts _ _ e in rw (step_is s t both.0) (ap (λ q. t ∷ q) (goes_by p q both.1))
+goes_by (s ∷ p) (t ∷ q) e = grind (arith, step_is s t, goes_by p q)
 
 -- a row, with the path of its table
 pub record Line : Type 0 where
@@ -168,8 +158,7 @@ module _ (holder : Path → Option ℕ) (p : Path) where
   q = around p
 
   off : (e : Line) → begins (path_of e) p ≡ false → begins (path_of e) (around p) ≡ false
-  off e not =
-      false_from_ne_true _ (λ x. false≢true (sym not ∙ goes_on (path_of e) (around p) p x (around_begins p)))
+  off e not = grind (arith, goes_on (path_of e) (around p) p, around_begins p)
 
   -- an earlier line, which the path does not meet
   later : (e : Line) (es : List Line) (n : Node) → begins (path_of e) p ≡ false → list_any (meets e) es ≡ false

@@ -1,13 +1,13 @@
 -- The rows of values and of section lists, as lines: no line meets another one, and what is told of the nodes in their
 -- values.
-use Rattle.std.proofs.Common.{◌≡◌, ℕ, zero, suc, true, false, List, [], ◌∷◌, ◌++◌, Option}
-use Rattle.std.proofs.Common.{Some, refl, sym, ◌∙◌, inl, inr}
+use Rattle.std.proofs.Common.{arith, ◌≡◌, ℕ, zero, suc, true, false, List, [], ◌∷◌, ◌++◌, Option, Some, refl, sym, ◌∙◌}
+use Rattle.std.proofs.Common.{inl, inr}
 use Rattle.std.specs.List.{list_any, list_all}
-use Rattle.std.proofs.lemmas.Bool.{false≢true, and_parts, or_parts, false_from_ne_true, cases_Bool}
+use Rattle.std.proofs.lemmas.Bool.{false≢true, and_parts, or_parts, cases_Bool}
 use Rattle.basic_toml_value.specs.Data.{Data}
 use Rattle.basic_toml_grammar.specs.Sections.{Key, KeyTexts, texts, Raw, Elements, no_elements, element, Rows, no_rows}
 use Rattle.basic_toml_grammar.specs.Sections.{row}
-use Rattle.basic_toml_grammar.specs.Steps.{key, number, Path, step_eq, begins, overlap, steps_of}
+use Rattle.basic_toml_grammar.specs.Steps.{key, number, Path, begins, overlap, steps_of}
 use Rattle.basic_toml_grammar.specs.RowClash.{any_overlaps, rows_clash, value_clashes, elements_clash}
 use Rattle.basic_toml_grammar.specs.IndexedPath.{Located}
 use Rattle.basic_toml_grammar.specs.Entering.{keyed_within, value_keyed, elements_keyed}
@@ -18,8 +18,8 @@ use Rattle.basic_toml_grammar.specs.Tree.{Mention}
 use Rattle.basic_toml_grammar.proofs.Clash.ClashesAgree.{turn_eq}
 use Rattle.basic_toml_grammar.proofs.Nesting.TreeIsAsDeepAsMentions.{bars, barred_by, mention, Peace}
 use Rattle.basic_toml_tree.specs.Outer.{no_keys, around}
-use Rattle.basic_toml_tree.proofs.Nodes.Lines.{begun, keys_end, Line, path_of, choose, start_among, Sound}
-use Rattle.basic_toml_tree.proofs.Nodes.Lines.{meets, Apart, OuterOf, ValueOuter, Found, within, by_rows, found}
+use Rattle.basic_toml_tree.proofs.Nodes.Lines.{begun, keys_end, Line, path_of, choose, start_among, Sound, meets, Apart}
+use Rattle.basic_toml_tree.proofs.Nodes.Lines.{OuterOf, ValueOuter, Found, within, by_rows, found}
 
 -- rows below a path, each with the key path that its nodes have
 abbrev pub lines_of : Path → (List Key → KeyTexts) → Rows → List Line
@@ -136,14 +136,10 @@ all_sound (l ∷ ls) free keyed =
 overlap_barred : (p q : Path) (d c : Data) → overlap p q ≡ true → bars p (Some d) q (Some c) ≡ true
 overlap_barred [] q d c e = refl
 overlap_barred (s ∷ p) [] d c e = refl
-overlap_barred (s ∷ p) (t ∷ q) d c e = elim (cases_Bool (step_eq s t)) [
-  | inl x ↦ rw x (overlap_barred p q d c (rw (turn_eq t s, x) at e))
-  | inr x ↦ absurd (false≢true (rw (turn_eq t s, x) at e))
-]
+overlap_barred (s ∷ p) (t ∷ q) d c e = grind (arith, turn_eq t s, overlap_barred p q d c)
 
 not_overlap : (p q : Path) (d c : Data) → bars p (Some d) q (Some c) ≡ false → overlap p q ≡ false
-not_overlap p q d c free =
-    false_from_ne_true _ (λ e. false≢true (sym free ∙ overlap_barred p q d c e))
+not_overlap p q d c free = grind (arith, overlap_barred p q d c)
 
 free_rows : (e : Line) (d : Data) (base : Path) (name : List Key → KeyTexts) (rows : Rows) (ms : List Mention)
     (es : List Line) → (list_any (barred_by (mention (path_of e) (Some d))) ms ≡ false → list_any (meets e) es ≡ false)
@@ -151,9 +147,11 @@ free_rows : (e : Line) (d : Data) (base : Path) (name : List Key → KeyTexts) (
     → list_any (meets e) (lines_of base name rows ++ es) ≡ false
 free_rows e d base name no_rows ms es rest free = rest free
 free_rows e d base name (row ks at v rows) ms es rest free =
-    let path = base ++ steps_of (texts ks) in
-    let split = or_parts _ _ free in
-    rw (not_overlap (path_of e) path d (finished v) split.0) (free_rows e d base name rows ms es rest split.1)
+    grind (
+      arith,
+      not_overlap (path_of e) (base ++ steps_of (texts ks)) d (finished v),
+      free_rows e d base name rows ms es rest,
+    )
 
 free_all : (e : Line) (d : Data) (ls : List Located)
     → list_any (barred_by (mention (path_of e) (Some d))) (mentions ls) ≡ false

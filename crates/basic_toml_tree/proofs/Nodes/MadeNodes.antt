@@ -1,38 +1,30 @@
 -- What headers made, as the tree has it and as the section list foretells it.
-use Rattle.std.proofs.Common.{◌≡◌, inl, inr, ◌==◌, ℕ, Bool, true, false, List, [], ◌∷◌, Option, Some, refl, ap}
-use Rattle.std.proofs.Common.{sym, ◌∙◌, map, codes}
-use Rattle.std.specs.Prelude.{◌||◌, if◌then◌else◌}
-use Rattle.std.specs.Borrow.{Bor}
-use Rattle.std.proofs.lemmas.Bool.{false≢true, or_left, or_right}
+use Rattle.std.proofs.Common.{arith, ◌≡◌, inl, inr, ◌==◌, ℕ, Bool, true, false, List, [], ◌∷◌, refl, ap, sym, ◌∙◌, map}
+use Rattle.std.proofs.Common.{codes}
+use Rattle.std.specs.Prelude.{if◌then◌else◌}
+use Rattle.std.proofs.lemmas.Bool.{false≢true}
 use Rattle.basic_toml_grammar.specs.Sections.{Section}
 use Rattle.basic_toml_grammar.specs.Steps.{Path}
 use Rattle.basic_toml_grammar.specs.IndexedPath.{located}
-use Rattle.basic_toml_grammar.specs.Standing.{Standing, table}
 use Rattle.basic_toml_grammar.specs.Trie.{Trie, nothing, standing, below}
 use Rattle.basic_toml_grammar.specs.Nodes as grammar
 use Rattle.basic_toml_grammar.proofs.Tries.MarksInATrie.{descend, standing_of}
 use Rattle.basic_toml_grammar.proofs.Tries.SectionsInATrie.{marks_put}
-use Rattle.basic_toml_grow.specs.declared.item.Item.{Item, out-Item}
-use Rattle.basic_toml_grow.specs.declared.item.Item.TheOpen.{Item-F}
-use Rattle.basic_toml_grow.specs.declared.item.Child.{Child}
-use Rattle.basic_toml_grow.specs.declared.item.Table.{Table, out-Table}
+use Rattle.basic_toml_grow.specs.declared.item.Table.{Table}
 use Rattle.basic_toml_tree.specs.declared.node.Node.{Node}
-use Rattle.basic_toml_tree.specs.declared.spot.HeaderTable.{HeaderTable}
 use Rattle.basic_toml_tree.specs.declared.spot.Spot.{Spot}
 use Rattle.basic_toml_tree.specs.declared.spot.Spot.TheVariants as spots
-use Rattle.basic_toml_grow.specs.Item.{item_trie, table_trie}
+use Rattle.basic_toml_grow.specs.Item.{table_trie}
 use Rattle.basic_toml_tree.specs.Headers.{last_of}
 use Rattle.basic_toml_tree.specs.HeaderTables.{table_of}
 use Rattle.basic_toml_tree.specs.Origin.{spot_is_made, is_made, spot_name, last_at, spot_is_borrowed}
 use Rattle.basic_toml_tree.specs.FirstStop.{Stands, only_root}
-use Rattle.basic_toml_tree.specs.Resolve.{head}
-use Rattle.basic_toml_tree.specs.Stands.{trie_at, tree_trie, spot_trie, wraps_table, is_wrapper, is_root, IsNodeAt}
-use Rattle.basic_toml_tree.specs.Stands.{StandsAt}
+use Rattle.basic_toml_tree.specs.Resolve.{IsResolved, head}
+use Rattle.basic_toml_tree.specs.Stands.{trie_at, tree_trie, spot_trie, wraps_table, is_root, IsNodeAt, StandsAt}
 use Rattle.basic_toml_tree.specs.Outer.{stands_made}
 use Rattle.basic_toml_tree.proofs.HeadersMake.{made_is, array_is}
 use Rattle.basic_toml_grow.proofs.ItemTries.{table_entries_trie}
-use Rattle.basic_toml_grow.proofs.ItemsStand.{item_standing, stands_array, standing_here}
-use Rattle.basic_toml_tree.proofs.Nodes.NodesStand.{tells_table}
+use Rattle.basic_toml_grow.proofs.ItemsStand.{stands_array, standing_here}
 use Rattle.basic_toml_tree.specs.declared.tree.Tree.{Tree}
 
 same_way : (p : Path) (t : Trie) → trie_at p t ≡ descend p t
@@ -71,69 +63,46 @@ pub record IsMade (count : ℕ) (spot : Spot) : Type 0 where
   pub name : spot_name count spot ≡ made_name (stands_array (standing (spot_trie spot)))
   pub slice : spot_is_borrowed spot ≡ false
 
-item_made : (count : ℕ) (b : Bor Item) (x : Item-F Item Child Table) (o : Option Standing) → out-Item b.now ≡ x
-    → item_standing x o → standing (item_trie b.now) ≡ o → is_wrapper x ≡ false → stands_made o ≡ true
-    → IsMade count (spots.Item b)
-item_made count b (Item-F.Tables tables) o is stands same own made =
-    record { made = rw is refl; name = rw (is, same, stands) refl; slice = rw is refl }
-item_made count b (Item-F.Sections tables) o is stands same own made =
-    record { made = rw is refl; name = rw (is, same, stands) refl; slice = rw is refl }
-item_made count b (Item-F.Table t) o is stands same own made = cc
-item_made count b (Item-F.Section z) o is stands same own made = cc
-item_made count b x o is stands same own made = absurd (false≢true (sym (ap stands_made stands) ∙ made))
-
-table_made : (count : ℕ) (b : HeaderTable)
-    → ((count == 0) || stands_made (standing (table_trie (table_of b)))) ≡ true
-    → IsMade count (spots.Table b)
-table_made count b made =
-    let stands = ap standing (table_entries_trie (table_of b)) in
-    let here : spot_is_made count (spots.Table b) ≡ true = rw stands at made in
-    record { made = here; name = rw (here, stands) refl; slice = refl }
-
 -- what stands as made, and the root
 pub spot_made : (count : ℕ) (spot : Spot) → wraps_table spot ≡ false → stands_made (standing (spot_trie spot)) ≡ true
     → IsMade count spot
-spot_made count (spots.Table b) own made = table_made count b (or_right _ _ made)
-spot_made count (spots.Item b) own made =
-    item_made count b (out-Item b.now) (standing (item_trie b.now)) refl (standing_here b.now) refl own made
+spot_made count (spots.Table b) own made = grind (arith, table_entries_trie (table_of b))
+spot_made count (spots.Item b) own made = grind (arith, standing_here b.now)
 spot_made count (spots.Plain b) own made = absurd (false≢true made)
-
-not_table : (x : Item-F Item Child Table) (o : Option Standing) → item_standing x o → is_wrapper x ≡ false
-    → (p n d : Bool) → o ≡ Some (table p n d) → ⊥
-not_table (Item-F.Tables tables) o stands own p n d is = absurd (false≢true (sym (ap stands_array is) ∙ stands))
-not_table (Item-F.Sections tables) o stands own p n d is = absurd (false≢true (sym (ap stands_array is) ∙ stands))
-not_table x o stands own p n d is = absurd (cc)
 
 pub root_made : (count : ℕ) (spot : Spot) (t : Table) → wraps_table spot ≡ false → (count == 0) ≡ true
     → spot_trie spot ≡ table_trie t → IsMade count spot
-root_made count (spots.Table b) t own none same = table_made count b (or_left _ _ none)
-root_made count (spots.Item b) t own none same =
-    absurd (not_table (out-Item b.now) (standing (item_trie b.now)) (standing_here b.now) own
-    (out-Table t).passed (out-Table t).named (out-Table t).dotted
-    (ap standing same ∙ ap standing (table_entries_trie t)))
-root_made count (spots.Plain b) t own none same =
-    let bad = ap standing same ∙ ap standing (table_entries_trie t) in absurd (cc)
+root_made count (spots.Table b) t own none same = grind (arith, table_entries_trie (table_of b))
+root_made count (spots.Item b) t own none same = grind (arith, standing_here b.now, table_entries_trie t)
+root_made count (spots.Plain b) t own none same = grind (arith, table_entries_trie t)
 
 -- a node that stands at the root of a tree, and where the trie of the tree has what headers made
 module _ (tree : Tree) (node : Node) (p : Path) (stands : StandsAt tree p node) where
   pub root_at : p ≡ [] → IsMade node.count node.spot × (spot_trie node.spot ≡ trie_at p (tree_trie tree))
   root_at is =
       let here : trie_at p (tree_trie tree) ≡ table_trie tree.root = rw is refl in
-      let table : tells_table (table_trie tree.root) ≡ true = ap tells_table (table_entries_trie tree.root) in
-      elim stands.there [
-        | inl none ↦ absurd (false≢true (sym (ap tells_table (sym here ∙ none)) ∙ table))
-        | inr there ↦
-            (root_made node.count node.spot tree.root there.1 (stands.root ∙ ap is_root is) (there.0 ∙ here), there.0)
-      ]
+      grind (
+        arith,
+        here,
+        stands.there,
+        stands.root,
+        ap is_root is,
+        table_entries_trie tree.root,
+        root_made node.count node.spot tree.root,
+      )
 
   pub table_at : stands_made (standing (trie_at p (tree_trie tree))) ≡ true
       → IsMade node.count node.spot × (spot_trie node.spot ≡ trie_at p (tree_trie tree))
-  table_at made = elim stands.there [
-    | inl none ↦ absurd (false≢true (rw none at made))
-    | inr there ↦ (spot_made node.count node.spot there.1 (rw (there.0) made), there.0)
-  ]
+  table_at made = grind (arith, stands.there, spot_made node.count node.spot)
 
 -- a node that headers made
+pub made_at : (sections : List Section) (tree : Tree) (node : Node) (p : Path) → IsResolved sections tree
+    → StandsAt tree p node → grammar.is_made (located sections) p ≡ true
+    → IsMade node.count node.spot × (spot_trie node.spot ≡ trie_at p (tree_trie tree))
+made_at sections tree node [] resolved stands made = root_at tree node [] stands refl
+made_at sections tree node (s ∷ p) resolved stands made =
+    table_at tree node (s ∷ p) stands (sym (made_in_trie sections (tree_trie tree) resolved.stands (s ∷ p) refl) ∙ made)
+
 module _ (sections : List Section) (node : Node) where
   abbrev pub told : Path → Type 0
   told p = IsMade node.count node.spot
@@ -141,20 +110,9 @@ module _ (sections : List Section) (node : Node) where
 
   pub is_told : (p : Path) → IsNodeAt sections p node → grammar.is_made (located sections) p ≡ true → told p
   is_told p is made =
-      let there = at p is.stands made in (
-        there.0,
-        rw (there.1) (sym (array_in_trie sections whole is.resolved.stands p)),
-      )
-    where
-      whole : Trie
-      whole = tree_trie node.tree.now
-
-      at : (p : Path) → StandsAt node.tree.now p node → grammar.is_made (located sections) p ≡ true
-          → IsMade node.count node.spot × (spot_trie node.spot ≡ trie_at p whole)
-      at [] stands made = root_at node.tree.now node [] stands refl
-      at (s ∷ p) stands made =
-          table_at node.tree.now node (s ∷ p) stands
-          (sym (made_in_trie sections whole is.resolved.stands (s ∷ p) refl) ∙ made)
+      let tree = node.tree.now in
+      let there = made_at sections tree node p is.resolved is.stands made in
+      (there.0, rw (there.1) (sym (array_in_trie sections (tree_trie tree) is.resolved.stands p)))
 
 last_in : (sections : List Section) → last_of (map head sections) ≡ grammar.last_at sections
 last_in [] = refl

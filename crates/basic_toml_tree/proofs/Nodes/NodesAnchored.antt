@@ -1,8 +1,7 @@
 -- What a node is found by again is an anchor of what is at its path.
-use Rattle.std.proofs.Common.{◌≡◌, ◌==◌, ℕ, true, false, List, [], ◌∷◌, Option, Some, None, length}
-use Rattle.std.proofs.Common.{refl, ap, sym, ◌∙◌, subst, inl, inr}
-use Rattle.std.specs.Prelude.{IsSomeAnd}
-use Rattle.std.specs.Borrow.{Bor}
+use Rattle.std.proofs.Common.{◌≡◌, ◌==◌, ℕ, Bool, true, false, List, [], Option, Some, None, length, arith, refl}
+use Rattle.std.proofs.Common.{sym, ◌∙◌, inl, inr}
+use Rattle.std.specs.Prelude.{IsSomeAnd, if◌then◌else◌}
 use Rattle.std.proofs.lemmas.Bool.{false≢true, cases_Bool}
 use Rattle.basic_toml_grammar.specs.Sections.{Section}
 use Rattle.basic_toml_grammar.specs.Steps.{Path, keys_of}
@@ -13,32 +12,38 @@ use Rattle.basic_toml_grammar.proofs.Clash.PathsAgree.{append_none}
 use Rattle.basic_toml_origin.specs.declared.anchor.Anchor.{Anchor}
 use Rattle.basic_toml_origin.specs.declared.anchor.Anchor.TheVariants as anchors
 use Rattle.basic_toml_origin.specs.Anchor.{LeadsTo, IsAnchorOf}
-use Rattle.basic_toml_grow.specs.declared.item.Item.{Item, out-Item}
-use Rattle.basic_toml_grow.specs.declared.item.Item.TheOpen.{Item-F}
-use Rattle.basic_toml_grow.specs.declared.item.Child.{Child}
-use Rattle.basic_toml_grow.specs.declared.item.Table.{Table, out-Table}
-use Rattle.basic_toml_grow.specs.Item.{item_trie}
 use Rattle.basic_toml_grow.proofs.ItemTries.{table_entries_trie}
-use Rattle.basic_toml_grow.proofs.ItemsStand.{item_standing, stands_array, standing_here}
+use Rattle.basic_toml_grow.proofs.ItemsStand.{stands_array, standing_here}
 use Rattle.basic_toml_tree.specs.declared.node.Node.{Node}
-use Rattle.basic_toml_tree.specs.declared.spot.HeaderTable.{HeaderTable}
 use Rattle.basic_toml_tree.specs.declared.spot.Spot.{Spot}
 use Rattle.basic_toml_tree.specs.declared.spot.Spot.TheVariants as spots
 use Rattle.basic_toml_tree.specs.HeaderTables.{table_of}
-use Rattle.basic_toml_tree.specs.Origin.{spot_is_made, spot_section, spot_anchor, anchor_of, item_anchor, item_section}
-use Rattle.basic_toml_tree.specs.Origin.{holds_tables, table_is_made, start_of, is_made}
+use Rattle.basic_toml_tree.specs.Origin.{spot_is_made, spot_section, spot_anchor, anchor_of, start_of, is_made}
 use Rattle.basic_toml_tree.specs.Stands.{IsNodeAt, is_root, spot_trie, tree_origins}
 use Rattle.basic_toml_tree.proofs.Foretold.NodesForetold.{made_foretold, start_foretold}
-use Rattle.basic_toml_tree.proofs.Nodes.KeysTold.{HasHeader, marked_at, section_leads}
+use Rattle.basic_toml_tree.proofs.Nodes.KeysTold.{any_count, has_section, marked_at, section_leads}
 use Rattle.basic_toml_tree.proofs.Nodes.MadeNodes.{is_told}
 
 no_steps : (p : Path) → is_root p ≡ true → p ≡ []
-no_steps [] root = refl
-no_steps (s ∷ p) root = absurd (false≢true root)
+no_steps p root = grind arith
 
 said : {A : Type 0} (o : Option A) (P : Type 0) → IsSomeAnd o (λ x. P) → P
 said None P some = absurd some
 said (Some x) P some = some
+
+-- the anchor of what headers made, and of what they did not
+made_anchor : (spot : Spot) (start keys n : ℕ) → spot_is_made 1 spot ≡ true → spot_section spot ≡ Some n
+    → spot_anchor spot start keys
+    ≡ (if stands_array (standing (spot_trie spot)) then anchors.Array n keys else anchors.Table n keys)
+made_anchor (spots.Table b) start keys n made section = grind (arith, table_entries_trie (table_of b))
+made_anchor (spots.Item b) start keys n made section = grind (arith, standing_here b.now)
+made_anchor (spots.Plain b) start keys n made section = absurd (false≢true made)
+
+row_anchor : (spot : Spot) (start keys : ℕ) → spot_is_made 1 spot ≡ false
+    → spot_anchor spot start keys ≡ anchors.Value start keys
+row_anchor (spots.Table b) start keys made = rw made refl
+row_anchor (spots.Item b) start keys made = grind arith
+row_anchor (spots.Plain b) start keys made = refl
 
 module _ (sections : List Section) (p : Path) (node : Node) (is : IsNodeAt sections p node)
     (below : (node.count == 0) ≡ false) where
@@ -48,29 +53,15 @@ module _ (sections : List Section) (p : Path) (node : Node) (is : IsNodeAt secti
       said (grammar.node_at sections p) (is_made node ≡ grammar.is_made (located sections) p)
       (made_foretold (is_made node) node refl sections p is)
 
-  has_header : grammar.is_made (located sections) p ≡ true
-      → IsSomeAnd (tree_origins node.tree.now p) (HasHeader (located sections) p)
-  has_header =
-      marked_at (located sections) (tree_origins node.tree.now) is.resolved.marks p (sym is.stands.root ∙ below)
-
-  leads : (n : ℕ) → spot_section node.spot ≡ Some n → is_made node ≡ true → LeadsTo (located sections) n p
-  leads n section made =
-      section_leads (located sections) p node.spot n section (tree_origins node.tree.now p)
-      (has_header (sym made_as ∙ made))
-      (rw (append_none p) at is.stands.comes.marked)
-
-  keys : node.count ≡ length (keys_of p)
-  keys = is.stands.count sections is.resolved
-
-  arrays : is_made node ≡ true → stands_array (standing (spot_trie node.spot)) ≡ grammar.is_array (located sections) p
-  arrays made = (is_told sections node p is (sym made_as ∙ made)).1
+  counted : node.count ≡ length (keys_of p)
+  counted = is.stands.count sections is.resolved
 
   of_value : is_made node ≡ false → IsAnchorOf sections p (anchors.Value node.start node.count)
   unfolding start_of
   of_value apart = (
     sym made_as ∙ apart,
     rw apart at (turned (grammar.node_at sections p) (start_foretold (start_of node) node refl sections p is)),
-    keys,
+    counted,
   )
     where
       turned : (o : Option grammar.Node) → IsSomeAnd o (λ found. start_of node ≡ found.start)
@@ -78,53 +69,32 @@ module _ (sections : List Section) (p : Path) (node : Node) (is : IsNodeAt secti
       turned None some = some
       turned (Some found) same = sym same
 
-  of_table : (b : HeaderTable) → node.spot ≡ spots.Table b
-      → IsAnchorOf sections p (spot_anchor (spots.Table b) node.start node.count)
-  of_table b at =
-      let made : is_made node ≡ table_is_made (table_of b) = rw (at, below) refl in
-      elim (cases_Bool (table_is_made (table_of b))) [
-        | inl e ↦ rw e (
-          leads (out-Table (table_of b)).section (rw (at, e) refl) (made ∙ e),
-          rw (← (arrays (made ∙ e)), at, table_entries_trie (table_of b)) refl,
-          keys,
-        )
-        | inr e ↦ rw e (of_value (made ∙ e))
-      ]
+  of_made : (array : Bool) (n : ℕ) → array ≡ grammar.is_array (located sections) p → LeadsTo (located sections) n p
+      → IsAnchorOf sections p (if array then anchors.Array n node.count else anchors.Table n node.count)
+  of_made true n same leads = (leads, sym same, counted)
+  of_made false n same leads = (leads, sym same, counted)
 
-  of_item : (b : Bor Item) (x : Item-F Item Child Table) → node.spot ≡ spots.Item b → out-Item b.now ≡ x
-      → IsAnchorOf sections p (item_anchor x node.start node.count)
-  of_item b x at e = go x e
-    where
-      made : (x : Item-F Item Child Table) → out-Item b.now ≡ x → is_made node ≡ holds_tables x
-      made x e = ap (spot_is_made node.count) at ∙ ap holds_tables e
-
-      array : (x : Item-F Item Child Table) (n : ℕ) → out-Item b.now ≡ x → holds_tables x ≡ true
-          → item_section x ≡ Some n → (item_standing x (standing (item_trie b.now))
-          → stands_array (standing (item_trie b.now)) ≡ true) → IsAnchorOf sections p (anchors.Array n node.count)
-      array x n e holds section stands = (
-        leads n (ap spot_section at ∙ ap item_section e ∙ section) (made x e ∙ holds),
-        rw (← (arrays (made x e ∙ holds)), at)
-            (stands (subst (λ x. item_standing x (standing (item_trie b.now))) e (standing_here b.now))),
-        keys,
-      )
-
-      go : (x : Item-F Item Child Table) → out-Item b.now ≡ x
-          → IsAnchorOf sections p (item_anchor x node.start node.count)
-      go (Item-F.Tables tables) e =
-          array (Item-F.Tables tables) (out-Table tables.value.1).section e refl refl (λ stands. stands)
-      go (Item-F.Sections tables) e =
-          array (Item-F.Sections tables) tables.value.1.0 e refl refl (λ stands. stands)
-      go x e = of_value (made x e)
-
-  by_spot : (spot : Spot) → node.spot ≡ spot → IsAnchorOf sections p (spot_anchor spot node.start node.count)
-  by_spot (spots.Table b) at = of_table b at
-  by_spot (spots.Item b) at = of_item b (out-Item b.now) at refl
-  by_spot (spots.Plain b) at = of_value (ap (spot_is_made node.count) at)
+  by_spot : IsAnchorOf sections p (spot_anchor node.spot node.start node.count)
+  by_spot = elim (cases_Bool (is_made node)) [
+    | inl made ↦
+        let ls = located sections in
+        let origins = tree_origins node.tree.now in
+        let there = sym made_as ∙ made in
+        let one = any_count node.spot node.count below ∙ made in
+        let section = has_section node.spot one in
+        let has = marked_at ls origins is.resolved.marks p (sym is.stands.root ∙ below) there in
+        rw (made_anchor node.spot node.start node.count section.0 one section.1) (of_made
+        (stands_array (standing (spot_trie node.spot))) section.0 (is_told sections node p is there).1
+        (section_leads ls p node.spot section.0 section.1 (origins p) has
+        (rw (append_none p) at is.stands.comes.marked)))
+    | inr apart ↦
+        rw (row_anchor node.spot node.start node.count (any_count node.spot node.count below ∙ apart)) (of_value apart)
+  ]
 
 pub anchored : (anchor : Anchor) (node : Node) → anchor ≡ anchor_of node → (sections : List Section) (p : Path)
     → IsNodeAt sections p node → IsAnchorOf sections p anchor
 unfolding anchor_of
 anchored anchor node same sections p is = rw same (elim (cases_Bool (node.count == 0)) [
   | inl e ↦ rw e (no_steps p (sym is.stands.root ∙ e))
-  | inr e ↦ rw e (by_spot sections p node is e node.spot refl)
+  | inr e ↦ rw e (by_spot sections p node is e)
 ])

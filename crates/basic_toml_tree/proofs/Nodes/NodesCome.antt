@@ -1,21 +1,18 @@
 -- A node comes from what the origins in the tree tell at its path.
-use Rattle.std.proofs.Common.{inl, inr, ◌≡◌, ◌==◌, ℕ, true, false, List, [], ◌∷◌, ◌++◌, Some, None, refl, ap, sym, ◌∙◌}
-use Rattle.std.proofs.Common.{subst, map, rules, slice_get, append_assoc, Vec, Global}
+use Rattle.std.proofs.Common.{inl, inr, ◌≡◌, ◌==◌, ℕ, true, false, [], ◌∷◌, ◌++◌, Option, Some, refl, ap, sym, ◌∙◌}
+use Rattle.std.proofs.Common.{subst, rules, append_assoc}
 use Rattle.std.specs.Prelude.{IfSome, if◌then◌else◌}
 use Rattle.std.specs.Borrow.{Bor}
 use Rattle.std.proofs.Math.Path.{fun_ext}
 use Rattle.std.proofs.lemmas.Bool.{false≢true, cases_Bool}
-use Rattle.basic_toml_value.specs.Pairs.{value_at}
-use Rattle.basic_toml_grammar.specs.Steps.{Step, key, number, Path}
-use Rattle.basic_toml_grow.specs.declared.item.Item.{Item, out-Item, the_lemmas, Array}
+use Rattle.basic_toml_grammar.specs.Steps.{Step, Path}
+use Rattle.basic_toml_grow.specs.declared.item.Item.{Item, out-Item, the_lemmas}
 use Rattle.basic_toml_grow.specs.declared.item.Item.TheOpen.{Item-F}
 use Rattle.basic_toml_grow.specs.declared.item.Item.TheViews.{roll-Item}
-use Rattle.basic_toml_read.specs.SectionView.{elements_view, rows_seen}
-use Rattle.basic_toml_grow.specs.Origins.{elements_origins, rows_origins, section_origins as rows_from, Origin, Origins}
-use Rattle.basic_toml_grow.specs.Origins.{no_origins, entry, at_numbers, table_origin, array_origin, elements_within}
-use Rattle.basic_toml_grow.specs.Origins.{item_origins, child_origins, of_table, section_in, table_within}
+use Rattle.basic_toml_grow.specs.Origins.{Origin, Origins, table_origin, array_origin, item_origins, child_origins}
+use Rattle.basic_toml_grow.specs.Origins.{of_table, section_in, table_within}
 use Rattle.basic_toml_grow.specs.declared.item.Child.{Child, out-Child}
-use Rattle.basic_toml_grow.specs.declared.item.Table.{Table, out-Table}
+use Rattle.basic_toml_grow.specs.declared.item.Table.{Table}
 use Rattle.basic_toml_tree.specs.declared.tree.Tree.{Tree}
 use Rattle.basic_toml_tree.specs.declared.node.Node.{Node}
 use Rattle.basic_toml_tree.specs.declared.spot.HeaderTable.{HeaderTable}
@@ -23,11 +20,9 @@ use Rattle.basic_toml_tree.specs.declared.spot.Spot.{Spot}
 use Rattle.basic_toml_tree.specs.declared.spot.Spot.TheVariants as spots
 use Rattle.basic_toml_tree.specs.HeaderTables.{table_of}
 use Rattle.basic_toml_tree.specs.Origin.{holds_tables, item_name, item_section, table_is_made, holds_string}
-use Rattle.basic_toml_tree.specs.Stands.{ItemHolds, HoldsTable, spot_origins, node_origins, SpotComes}
-use Rattle.basic_toml_tree.specs.Stands.{ComesFrom, tree_origins}
+use Rattle.basic_toml_tree.specs.Stands.{node_origins, SpotComes, ComesFrom, tree_origins}
 use Rattle.basic_toml_grow.proofs.ItemsStand.{shape}
-use Rattle.basic_toml_grow.proofs.Origins.OriginsSeen.{child_seen, made_seen, section_seen, table_origins}
-use Rattle.basic_toml_grow.proofs.Origins.OriginsSeen.{array_seen, seen_at_key, seen_at_none}
+use Rattle.basic_toml_grow.proofs.Origins.OriginsSeen.{child_seen, made_seen, section_seen, table_origins, seen_at_none}
 
 -- what tells the same at each path
 pub comes_alike : {f g : Origins} {count : ℕ} {spot : Spot} {at : ℕ} → ((q : Path) → f q ≡ g q)
@@ -42,35 +37,6 @@ pub comes_on : (from node : Node) (s : Step) (tree : Tree) (p : Path)
     → ComesFrom (λ q. tree_origins tree ((p ++ s ∷ []) ++ q)) node
 comes_on from node s tree p comes on =
     comes_alike (λ q. ap (tree_origins tree) (append_assoc p (s ∷ []) q) ∙ comes.parts s q) (on comes.section)
-
--- at a key of a table
-item_key : (x : Item-F Item Child Table) (i : Item) (t : Table) (k : List ℕ) (q : Path) (at s : ℕ) → out-Item i ≡ x
-    → ItemHolds x t → item_origins i at s (key k ∷ q) ≡ table_origins t (key k ∷ q)
-item_key (Item-F.Table b) i t k q at s is holds =
-    rw (shape i (Item-F.Table b) is, holds) (search (rules, the_lemmas))
-item_key (Item-F.Inline b) i t k q at s is holds =
-    rw (shape i (Item-F.Inline b) is, holds) (search (rules, the_lemmas))
-item_key x i t k q at s is holds = absurd holds
-
-spot_key : (spot : Spot) (t : Table) (k : List ℕ) (q : Path) (at s : ℕ) → HoldsTable spot t
-    → spot_origins spot at s (key k ∷ q) ≡ table_origins t (key k ∷ q)
-spot_key (spots.Table b) t k q at s holds = ap (λ t. table_origins t (key k ∷ q)) (sym holds)
-spot_key (spots.Item b) t k q at s holds = item_key (out-Item b.now) b.now t k q at s refl holds
-spot_key (spots.Plain b) t k q at s holds = absurd holds
-
-pub key_origins : (from : Node) (t : Table) (k : List ℕ) (c : Child) → HoldsTable from.spot t
-    → value_at (out-Table t).entries k ≡ Some c → (s : ℕ) (q : Path)
-    → node_origins s from (key k ∷ q) ≡ child_origins c q
-key_origins from t k c holds found s q =
-    rw (spot_key from.spot t k q from.start s holds, seen_at_key t k q, found) refl
-
--- at a number of an array
-pub literal_comes : (from node : Node) (n : ℕ) (b : Bor Item) → from.spot ≡ spots.Item b
-    → (children : Vec Child Global) (child : Child) → b.now ≡ Array children
-    → slice_get (map child_origins children.items) n ≡ Some (child_origins child) → ComesFrom (child_origins child) node
-    → (s : ℕ) → ComesFrom (λ q. node_origins s from (number n ∷ q)) node
-literal_comes from node n b at children child is read comes s =
-    comes_alike (λ q. rw (at, is, array_seen children from.start s, read) refl) comes
 
 -- the root, of which nothing is told
 pub root_comes : (tree : Tree) (b : HeaderTable) (at : ℕ) → table_of b ≡ tree.root
@@ -97,11 +63,6 @@ table_comes t b count at s is some =
       parts = λ r q. ap (λ t. table_origins t (r ∷ q)) (sym is);
     }
 
-pub table_node_comes : (b : HeaderTable) (node : Node) (at s : ℕ) → node.spot ≡ spots.Table b → node.start ≡ at
-    → (node.count == 0) ≡ false → ComesFrom (of_table at s (table_within (table_of b))) node
-table_node_comes b node at s is_spot is_at some =
-    rw (is_spot, is_at) (table_comes (table_of b) b node.count at s refl some)
-
 -- a child that has such a table
 pub child_table_comes : (c : Child) (t : Table) (b : HeaderTable) (count : ℕ)
     → item_origins (out-Child c).item (out-Child c).start (out-Child c).section
@@ -122,69 +83,45 @@ item_told x at s = record {
   is_slice = holds_string x;
 }
 
-record Tells (x : Item-F Item Child Table) (at s : ℕ) (f : Origins) : Type 0 where
+record Tells (x : Item-F Item Child Table) (at s : ℕ) (o : Option Origin) : Type 0 where
   own : Origin
-  below : Origins
-  is : f ≡ entry own below
+  is : o ≡ Some own
   told : own.made ≡ false → own ≡ item_told x at s
   marked : IfSome (item_section x) (λ n. own.section ≡ n)
 
-module _ (x : Item-F Item Child Table) (at s : ℕ) (g : Origins) where
-  value_tells : item_section x ≡ None → item_origins (roll-Item x) at s ≡ entry (item_told x at s) g
-      → Tells x at s (item_origins (roll-Item x) at s)
-  value_tells none is = record {
-    own = item_told x at s;
-    below = g;
-    is = is;
-    told = λ apart. refl;
-    marked = rw none tt;
-  }
+-- what headers made
+made_tells : (x : Item-F Item Child Table) (at s : ℕ) (o : Origin) → item_origins (roll-Item x) at s [] ≡ Some o
+    → o.made ≡ true → IfSome (item_section x) (λ n. o.section ≡ n)
+    → Tells x at s (item_origins (roll-Item x) at s [])
+made_tells x at s o is made marked = record {
+  own = o;
+  is = is;
+  told = λ apart. absurd (false≢true (sym apart ∙ made));
+  marked = marked;
+}
 
-  -- what headers made
-  made_tells : (o : Origin) → item_origins (roll-Item x) at s ≡ entry o g → o.made ≡ true
-      → IfSome (item_section x) (λ n. o.section ≡ n) → Tells x at s (item_origins (roll-Item x) at s)
-  made_tells o is made marked = record {
-    own = o;
-    below = g;
-    is = is;
-    told = λ apart. absurd (false≢true (sym apart ∙ made));
-    marked = marked;
-  }
-
-form_tells : (x : Item-F Item Child Table) (at s : ℕ) → Tells x at s (item_origins (roll-Item x) at s)
-form_tells (Item-F.Array z) at s =
-    value_tells (Item-F.Array z) at s (at_numbers (map child_origins z.items)) refl (search (rules, the_lemmas))
-form_tells (Item-F.Plain z) at s =
-    value_tells (Item-F.Plain z) at s (at_numbers (elements_origins s (elements_view z))) refl
-    (search (rules, the_lemmas))
-form_tells (Item-F.Rows z) at s =
-    value_tells (Item-F.Rows z) at s (rows_origins s (rows_seen [] z)) refl (search (rules, the_lemmas))
-form_tells (Item-F.Inline z) at s =
-    value_tells (Item-F.Inline z) at s (table_origins z.value) refl (search (rules, the_lemmas))
+form_tells : (x : Item-F Item Child Table) (at s : ℕ) → Tells x at s (item_origins (roll-Item x) at s [])
 form_tells (Item-F.Table z) at s =
     let w = table_within z.value in
     record {
       own = table_origin w.made at (section_in w s);
-      below = w.below;
       is = search (rules, the_lemmas);
       told = λ apart. ap (λ made. table_origin made at (if made then w.section else s)) apart;
       marked = tt;
     }
 form_tells (Item-F.Section z) at s =
-    made_tells (Item-F.Section z) at s (rows_origins s (rows_seen [] z)) (table_origin true at s)
-    (search (rules, the_lemmas)) refl tt
+    made_tells (Item-F.Section z) at s (table_origin true at s) (search (rules, the_lemmas)) refl tt
 form_tells (Item-F.Tables y) at s =
-    made_tells (Item-F.Tables y) at s
-    (at_numbers (elements_within at s (map table_within y.value.0.items ++ table_within y.value.1 ∷ [])))
-    (array_origin at (table_within y.value.1).section) (search (rules, the_lemmas)) refl (section_seen y.value.1)
+    made_tells (Item-F.Tables y) at s (array_origin at (table_within y.value.1).section) (search (rules, the_lemmas))
+    refl (section_seen y.value.1)
 form_tells (Item-F.Sections y) at s =
-    made_tells (Item-F.Sections y) at s (at_numbers (map (rows_from at) y.value.0 ++ rows_from at y.value.1 ∷ []))
-    (array_origin at y.value.1.0) (search (rules, the_lemmas)) refl refl
-form_tells x at s = value_tells x at s no_origins refl (search (rules, the_lemmas))
+    made_tells (Item-F.Sections y) at s (array_origin at y.value.1.0) (search (rules, the_lemmas)) refl refl
+form_tells x at s =
+    record { own = item_told x at s; is = search (rules, the_lemmas); told = λ apart. refl; marked = tt }
 
-item_tells : (i : Item) (at s : ℕ) → Tells (out-Item i) at s (item_origins i at s)
+item_tells : (i : Item) (at s : ℕ) → Tells (out-Item i) at s (item_origins i at s [])
 item_tells i at s =
-    subst (λ j. Tells (out-Item i) at s (item_origins j at s)) (sym (shape i (out-Item i) refl))
+    subst (λ j. Tells (out-Item i) at s (item_origins j at s [])) (sym (shape i (out-Item i) refl))
     (form_tells (out-Item i) at s)
 
 -- of what rows made, the section that first mentioned it
@@ -200,9 +137,9 @@ pub item_comes : (c : Child) (b : Bor Item) (count : ℕ) → b.now ≡ (out-Chi
 item_comes c b count is =
     let x = out-Child c in
     let tells = item_tells b.now x.start x.section in
-    rw (child_seen c, ← is, tells.is) (record {
+    rw (child_seen c, ← is) (record {
       section = x.section;
-      own = tells.told;
-      marked = tells.marked;
-      parts = λ r q. ap (λ f. f (r ∷ q)) (sym tells.is);
+      own = rw (tells.is) tells.told;
+      marked = rw (tells.is) tells.marked;
+      parts = λ r q. refl;
     })

@@ -1,6 +1,6 @@
 -- The elements of an array and the entries of a table, one after another.
-use Rattle.std.proofs.Common.{◌≡◌, ℕ, zero, suc, ◌+◌, ◌<◌, List, [], ◌∷◌, ◌++◌, length, drop, map, Some, refl, ap}
-use Rattle.std.proofs.Common.{◌∙◌, sym, get_or, IsTrue, Vec, Box, Global, option_map}
+use Rattle.std.proofs.Common.{arith, ◌≡◌, ℕ, zero, suc, ◌+◌, ◌<◌, List, [], ◌∷◌, ◌++◌, length, drop, map, Some, refl}
+use Rattle.std.proofs.Common.{ap, ◌∙◌, sym, get_or, IsTrue, Vec, Box, Global, option_map}
 use Rattle.std.specs.Prelude.{slice_get}
 use Rattle.std.proofs.lemmas.List.{drop_more, map-append}
 use Rattle.std.proofs.lemmas.Simd.{map-map}
@@ -56,9 +56,7 @@ pub pair_read : {A D : Type 0} (f : A → D) (ps : List (List ℕ × A)) (i : �
     → slice_get (map (λ p. p.0) ps) i ≡ Some k → slice_get (map (λ p. p.1) ps) i ≡ Some v
     → slice_get {X = List ℕ × D} (map (λ p. (p.0, f p.1)) ps) i ≡ Some (k, f v)
 pair_read f [] i k v key value = absurd (cc)
-pair_read f (p ∷ ps) zero k v key value =
-    let a : p.0 ≡ k = cc in
-    let b : p.1 ≡ v = cc in rw (a, b) refl
+pair_read f (p ∷ ps) zero k v key value = grind arith
 pair_read f (p ∷ ps) (suc i) k v key value = pair_read f ps i k v key value
 
 pub array_elements : (children : Vec Child Global)

@@ -1,17 +1,29 @@
--- What holds of each value and of each dotted table holds of every node in a value.
-use Rattle.std.proofs.Common.{◌≡◌, ℕ, zero, suc, Bool, true, false, [], ◌∷◌, Option, Some, refl, length, drop}
-use Rattle.std.specs.Prelude.{if◌then◌else◌, IfSome}
+-- What holds of what is there, if anything is. What holds of each value and of each dotted table holds of every node in
+-- a value.
+use Rattle.std.proofs.Common.{◌≡◌, Option, Some, None, refl, ℕ, zero, suc, Bool, true, false, [], ◌∷◌}
+use Rattle.std.specs.Prelude.{IfSome, if◌then◌else◌}
+use Rattle.std.specs.Option.{option_or}
 use Rattle.basic_toml_grammar.specs.Sections.{KeyTexts, texts, Raw, Elements, no_elements, element, Rows, no_rows, row}
 use Rattle.basic_toml_grammar.specs.Steps.{key, number, Path, begins, steps_of}
-use Rattle.basic_toml_grammar.specs.Nodes.{Node, front, value_node, dotted_node, holder_in, node_in, node_among}
-use Rattle.basic_toml_grammar.specs.Nodes.{node_by}
+use Rattle.basic_toml_grammar.specs.Nodes.{Node, value_node, dotted_node, node_in, node_among, node_by}
+
+module _ {A : Type 0} where
+  -- what holds of all that may be there
+  pub if_there : (o : Option A) {P : A → Type 0} → ((x : A) → o ≡ Some x → P x) → IfSome o P
+  if_there None so = tt
+  if_there (Some x) so = so x refl
+
+  -- of the first of two
+  pub or_some : (m n : Option A) (P : A → Type 0) → IfSome m P → IfSome n P → IfSome (option_or m n) P
+  or_some None n P first later = later
+  or_some (Some x) n P first later = first
 
 -- one of three, each where it is chosen
-pub one_of : (a b : Bool) (m n : Option Node) (d : Node) (P : Node → Type 0) → (a ≡ true → IfSome m P)
+pub one_of : (a b : Bool) {d : Node} (m n : Option Node) (P : Node → Type 0) → (a ≡ true → IfSome m P)
     → (b ≡ true → P d) → IfSome n P → IfSome (if a then m else if b then Some d else n) P
-one_of true b m n d P value table later = value refl
-one_of false true m n d P value table later = table refl
-one_of false false m n d P value table later = later
+one_of true b m n P value table later = value refl
+one_of false true m n P value table later = table refl
+one_of false false m n P value table later = later
 
 module _ (keys : KeyTexts) (P : Node → Type 0)
     (of_value : (outer : Option ℕ) (at : ℕ) (v : Raw) → P (value_node keys outer at v))
@@ -32,8 +44,5 @@ module _ (keys : KeyTexts) (P : Node → Type 0)
     by_rows outer all no_rows p = tt
     by_rows outer all (row ks at v later) p =
         let steps = steps_of (texts ks) in
-        one_of (begins steps p) (begins p steps)
-        (node_in keys (holder_in outer all (front steps)) at v (drop (length steps) p)) (node_by keys outer all later p)
-        (dotted_node keys (holder_in outer all (front p)) at) P
-        (λ _. in_value (holder_in outer all (front steps)) at v (drop (length steps) p))
-        (λ _. of_dotted (holder_in outer all (front p)) at) (by_rows outer all later p)
+        one_of (begins steps p) (begins p steps) _ _ P (λ _. in_value _ at v _) (λ _. of_dotted _ at)
+        (by_rows outer all later p)

@@ -1,52 +1,39 @@
 -- A node below another one stands at the path of that one and one more step.
-use Rattle.std.proofs.Common.{◌≡◌, ◌⊎◌, inl, inr, ◌==◌, ℕ, Bool, true, false, List, [], ◌∷◌}
-use Rattle.std.proofs.Common.{◌++◌, Some, None, refl, ap, sym, ◌∙◌, rules, Vec, Global}
-use Rattle.std.specs.Prelude.{slice_get}
+use Rattle.std.proofs.Common.{◌≡◌, ◌⊎◌, inl, ◌==◌, ℕ, Bool, true, false, List, [], ◌∷◌}
+use Rattle.std.proofs.Common.{◌++◌, Some, refl, ap, sym, ◌∙◌, arith, rules, Vec, Global}
+use Rattle.std.specs.Prelude.{slice_get, ◌≤◌, Option, IfSome, IfNone, MatchOption, length, None}
 use Rattle.std.specs.Option.{option_and_then}
-use Rattle.std.specs.Str.{bytes_eq}
-use Rattle.std.proofs.lemmas.Slice.Eq.{bytes_eq-Decides}
 use Rattle.std.specs.Borrow.{Bor}
-use Rattle.std.proofs.lemmas.Bool.{cases_Bool}
 use Rattle.basic_toml_value.specs.Data.{Data}
-use Rattle.basic_toml_value.specs.Pairs.{value_at}
-use Rattle.basic_toml_index.proofs.DistinctKeys.{bytes_eq-same, bytes_eq_other}
-use Rattle.basic_toml_grammar.specs.Steps.{Step, key, number, Path}
+use Rattle.basic_toml_grammar.specs.Steps.{Step, number, Path}
 use Rattle.basic_toml_grammar.specs.Standing as standing
-use Rattle.basic_toml_grammar.specs.Trie.{Trie, trie, nothing, below, find}
+use Rattle.basic_toml_grammar.specs.Trie.{Trie, trie, nothing, below}
 use Rattle.basic_toml_grammar.specs.Mentions.{finished}
-use Rattle.basic_toml_read.specs.declared.section.Raw as raws
 use Rattle.basic_toml_read.specs.declared.section.Element.{Element}
 use Rattle.basic_toml_read.specs.SectionView.{raw_of}
-use Rattle.basic_toml_read.proofs.ViewsSeen.{array_of}
 use Rattle.basic_toml_plain.specs.Plain.{plain_array}
-use Rattle.basic_toml_plain.specs.Tries.{by_keys, leaf}
-use Rattle.basic_toml_grow.specs.declared.item.Item.{Item, out-Item, the_lemmas, Array, Plain}
-use Rattle.basic_toml_grow.specs.declared.item.Item.TheOpen.{Item-F}
+use Rattle.basic_toml_plain.specs.Tries.{leaf}
+use Rattle.basic_toml_grow.specs.declared.item.Item.{Item, the_lemmas, Array}
 use Rattle.basic_toml_grow.specs.declared.item.Child.{Child}
-use Rattle.basic_toml_grow.specs.declared.item.Table.{Table, out-Table}
 use Rattle.basic_toml_tree.specs.declared.tree.Tree.{Tree}
 use Rattle.basic_toml_tree.specs.declared.node.Node.{Node}
-use Rattle.basic_toml_tree.specs.declared.plain_value.PlainValue.{PlainValue}
 use Rattle.basic_toml_tree.specs.declared.spot.Spot.{Spot}
 use Rattle.basic_toml_tree.specs.declared.spot.Spot.TheVariants as spots
-use Rattle.basic_toml_grow.specs.Item.{item_trie, child_trie}
-use Rattle.basic_toml_tree.specs.Stands.{trie_at, tree_trie, spot_trie, wraps_table, HoldsTable, is_root}
+use Rattle.basic_toml_tree.specs.Stands.{trie_at, tree_trie, spot_trie, wraps_table, is_root}
 use Rattle.basic_toml_tree.proofs.Nodes.KeysLead.{KeepsKeys, keys_beside}
-use Rattle.basic_toml_tree.specs.Stands.{StandsAt, StandsOn, IsBeside, is_wrapper, ItemHolds, ComesFrom, node_origins}
-use Rattle.basic_toml_tree.specs.Stands.{AtKey, StartIsKept, IsPlainElement, spot_origins}
+use Rattle.basic_toml_tree.specs.Stands.{StandsAt, StandsOn, IsBeside, ComesFrom, node_origins}
+use Rattle.basic_toml_tree.specs.Stands.{AtNumber, AtKey, StartIsKept, IsPlainElement, spot_origins}
 use Rattle.basic_toml_tree.specs.Data.{child_data, table_data}
 use Rattle.basic_toml_tree.specs.Nodes.{node_data, data_at, elements_in}
-use Rattle.basic_toml_tree.specs.HeaderTables.{table_of}
 use Rattle.basic_toml_tree.specs.Outer.{around}
 use Rattle.basic_toml_tree.specs.Paths.{data_by, data_along}
-use Rattle.basic_toml_grow.specs.Origins.{child_origins, item_origins, value_origins}
-use Rattle.basic_toml_tree.proofs.Nodes.PlainNodes.{element_comes}
-use Rattle.basic_toml_grow.proofs.ItemTries.{plain_trie, table_entries_trie}
-use Rattle.basic_toml_grow.proofs.ItemsStand.{shape}
-use Rattle.basic_toml_tree.proofs.Nodes.NodesCome.{comes_on, literal_comes}
+use Rattle.basic_toml_grow.specs.Origins.{child_origins, value_origins}
+use Rattle.basic_toml_tree.proofs.Nodes.PlainNodes.{element_comes, plain_length, plain_read}
+use Rattle.basic_toml_grow.proofs.ItemTries.{table_entries_trie}
+use Rattle.basic_toml_tree.proofs.Nodes.NodesCome.{comes_alike, comes_on}
+use Rattle.basic_toml_grow.proofs.Origins.OriginsSeen.{array_seen}
 use Rattle.basic_toml_tree.proofs.Nodes.Lines.{around_number}
 use Rattle.basic_toml_tree.proofs.Nodes.NodesInOrder.{array_elements, read_mapped}
-use Rattle.basic_toml_grow.proofs.KeysInATrie.{tries_of}
 
 pub at_more : (p : Path) (s : Step) (t : Trie) → trie_at (p ++ s ∷ []) t ≡ below s (trie_at p t)
 at_more [] s t = refl
@@ -54,46 +41,12 @@ at_more (r ∷ p) s t = at_more p s (below r t)
 
 -- the data one step on from a path
 data_more : (p : Path) (s : Step) (d : Data) → data_along (p ++ s ∷ []) d ≡ option_and_then (data_by s) (data_along p d)
-data_more [] s d = elim (data_by s d) as (λ o. option_and_then (data_along []) o ≡ o) [ None ↦ refl | Some x ↦ refl ]
-data_more (r ∷ p) s d =
-    elim (data_by r d) as (λ o. option_and_then (data_along (p ++ s ∷ [])) o
-    ≡ option_and_then (data_by s) (option_and_then (data_along p) o)) [ None ↦ refl | Some x ↦ data_more p s x ]
+data_more [] s d = grind arith
+data_more (r ∷ p) s d = grind (arith, data_more p s)
 
 pub no_root : (p : Path) (s : Step) → is_root (p ++ s ∷ []) ≡ false
 no_root [] s = refl
 no_root (r ∷ p) s = refl
-
--- what is at a key of a table
-find_key : (ps : List (List ℕ × Child)) (k : List ℕ) (c : Child) → value_at ps k ≡ Some c
-    → find (key k) (by_keys (tries_of child_trie ps)) ≡ child_trie c
-unfolding tries_of
-find_key [] k c found = absurd (cc)
-find_key (p ∷ ps) k c found = elim (cases_Bool (bytes_eq k p.0)) [
-  | inl e ↦
-      let same : k ≡ p.0 = (bytes_eq-Decides k p.0).0 e in
-      let this : p.1 ≡ c = cc (rw e at found) in rw (same, bytes_eq-same p.0) (ap child_trie this)
-  | inr e ↦ rw (bytes_eq_other p.0 k e) (find_key ps k c (rw e at found))
-]
-
-abbrev NothingOr : Step → Trie → Trie → Type 0
-NothingOr s from t = (below s from ≡ nothing) ⊎ (t ≡ below s from)
-
--- at a key of a table, and of a value that a row gives, of which the trie tells nothing more
-item_below : (i : Item) (x : Item-F Item Child Table) (t : Table) (k : List ℕ) (u : Trie) → out-Item i ≡ x
-    → is_wrapper x ≡ false → ItemHolds x t → NothingOr (key k) (item_trie i) u
-item_below i (Item-F.Inline table) t k u is own holds =
-    inl (rw (shape i (Item-F.Inline table) is) (search (rules, the_lemmas)))
-item_below i (Item-F.Table table) t k u is own holds = cc
-item_below i x t k u is own holds = absurd holds
-
-pub spot_below : (spot : Spot) (t : Table) (k : List ℕ) (c : Child) → HoldsTable spot t → wraps_table spot ≡ false
-    → value_at (out-Table t).entries k ≡ Some c → NothingOr (key k) (spot_trie spot) (child_trie c)
-spot_below (spots.Table table) t k c holds own found =
-    let same : t ≡ table_of table = holds in
-    inr (rw (← same, table_entries_trie t) (sym (find_key (out-Table t).entries k c found)))
-spot_below (spots.Item item) t k c holds own found =
-    item_below item.now (out-Item item.now) t k (child_trie c) refl own holds
-spot_below (spots.Plain plain) t k c holds own found = absurd holds
 
 -- A node is that of a trie, and so of a path of a tree and of a step on from another node, if the trie tells of
 -- anything there.
@@ -109,10 +62,7 @@ StepsOn from s node = IsOf (below s (spot_trie from.spot)) node
 -- one step on from a node
 pub further : (from node : Node) (s : Step) → (wraps_table from.spot ≡ false → StepsOn from s node) → (tree : Tree)
     (p : Path) → StandsAt tree p from → Further tree (p ++ s ∷ []) node
-further from node s more tree p stands = elim stands.there [
-  | inl none ↦ inl (at_more p s (tree_trie tree) ∙ ap (below s) none)
-  | inr there ↦ rw (at_more p s (tree_trie tree), ← (there.0)) (more there.1)
-]
+further from node s more tree p stands = grind (arith, at_more p s (tree_trie tree), stands.there, more)
 
 module _ (from node : Node) (s : Step) (same : node.tree ≡ from.tree)
     (read : data_by s (node_data from) ≡ Some (node_data node))
@@ -148,12 +98,7 @@ tells_table _ = false
 pub no_array_root : (from : Node) (tree : Tree) (p : Path) → StandsAt tree p from
     → tells_table (spot_trie from.spot) ≡ false → is_root p ≡ false
 no_array_root from tree (s ∷ p) stands array = refl
-no_array_root from tree [] stands array =
-    let root : tells_table (tree_trie tree) ≡ true = ap tells_table (table_entries_trie tree.root) in
-    elim stands.there [
-      | inl none ↦ sym root ∙ ap tells_table none
-      | inr there ↦ sym root ∙ ap tells_table (sym there.0) ∙ array
-    ]
+no_array_root from tree [] stands array = grind (arith, stands.there, table_entries_trie tree.root)
 
 -- A node beside an array, with the keys of it and the same table around, is that of an element.
 pub beside_stands : (from node : Node) (here : Spot) (n : ℕ) → IsBeside from here node
@@ -168,42 +113,38 @@ beside_stands from node here n beside array read more comes tree p stands =
     (rw (around_number p n, beside.outer) stands.outer)
     (keys_beside from node here n beside tree p stands)
 
-plain_origins : (es : List Element) (at s : ℕ) → item_origins (Plain es) at s ≡ value_origins s at (plain_array es)
-plain_origins es at s = search (rules, the_lemmas)
-
--- an element of an array of plain values
-element_stands : (from node : Node) (n : ℕ) (es : List Element) → IsPlainElement from es n node
-    → spot_trie from.spot ≡ leaf (finished (plain_array es))
+-- what is answered for a number of an array of plain values
+pub plain_given : (from : Node) (es : List Element) (n : ℕ) (result : Option Node)
+    → node_data from ≡ finished (plain_array es) → spot_trie from.spot ≡ leaf (finished (plain_array es))
     → ((at s : ℕ) → spot_origins from.spot at s ≡ value_origins s at (plain_array es))
-    → slice_get (elements_in (node_data from)) n ≡ Some (node_data node) → StandsOn from (number n) node
-element_stands from node n es placed here origins read =
-    beside_stands from node node.spot n placed.beside (ap tells_table here) read
-    (λ own. inl (ap (below (number n)) here)) (λ counted. element_comes from node es n placed origins)
+    → IfNone result (length es ≤ n) → IfSome result (IsPlainElement from es n)
+    → MatchOption result (length (elements_in (node_data from)) ≤ n)
+    (λ node. slice_get (elements_in (node_data from)) n ≡ Some (node_data node))
+    × IfSome result (AtNumber from n)
+plain_given from es n None is here origins past some = (rw (is, plain_length es) past, tt)
+plain_given from es n (Some node) is here origins past some =
+    let read : slice_get (elements_in (node_data from)) n ≡ Some (node_data node) =
+    rw (is, some.spot) (plain_read es n node.start (raw_of some.plain.value.now) some.placed) in (
+      read,
+      beside_stands from node node.spot n some.beside (ap tells_table here) read
+          (λ own. inl (ap (below (number n)) here)) (λ counted. element_comes from node es n some origins),
+    )
 
--- and of one among such elements
-pub value_stands : (from node : Node) (n : ℕ) (v : PlainValue) (es : Vec Element Global) → from.spot ≡ spots.Plain v
-    → v.value.now ≡ raws.Array es → IsPlainElement from es.items n node
-    → slice_get (elements_in (node_data from)) n ≡ Some (node_data node) → StandsOn from (number n) node
-value_stands from node n v es at is placed read =
-    let seen : raw_of v.value.now ≡ plain_array es.items = ap raw_of is ∙ array_of es in
-    element_stands from node n es.items placed (rw (at, seen) refl) (λ start s. rw (at, seen) refl) read
-
-module _ (from node : Node) (n : ℕ) (b : Bor Item) (at : from.spot ≡ spots.Item b) where
-  pub literal_stands : (children : Vec Child Global) (spot : Spot) (child : Child) → b.now ≡ Array children
-      → slice_get children.items n ≡ Some child → node_data node ≡ child_data child → IsBeside from spot node
-      → ComesFrom (child_origins child) node
-      → (slice_get (elements_in (node_data from)) n ≡ Some (node_data node)) × StandsOn from (number n) node
-  literal_stands children spot child is there same beside comes =
-      let read : slice_get (elements_in (node_data from)) n ≡ Some (node_data node) =
-      rw (at, is, array_elements children, same) (read_mapped child_data children.items n child there) in (
-        read,
-        beside_stands from node spot n beside (rw (at, is) (search (rules, the_lemmas))) read
-            (λ own. inl (rw (at, is) (search (rules, the_lemmas)))) (λ counted s. literal_comes from node n b at
-            children child is (read_mapped child_origins children.items n child there) comes s),
-      )
-
-  pub plain_stand : (es : List Element) → b.now ≡ Plain es → IsPlainElement from es n node
-      → slice_get (elements_in (node_data from)) n ≡ Some (node_data node) → StandsOn from (number n) node
-  plain_stand es is placed read =
-      element_stands from node n es placed (rw (at, is) (plain_trie es))
-      (λ start s. rw (at, is) (plain_origins es start s)) read
+-- and what for one of an array of other items
+pub literal_stands : (from node : Node) (n : ℕ) (b : Bor Item) → from.spot ≡ spots.Item b
+    → (children : Vec Child Global) (spot : Spot) (child : Child) → b.now ≡ Array children
+    → slice_get children.items n ≡ Some child → node_data node ≡ child_data child → IsBeside from spot node
+    → ComesFrom (child_origins child) node
+    → (slice_get (elements_in (node_data from)) n ≡ Some (node_data node)) × AtNumber from n node
+literal_stands from node n b at children spot child is there same beside comes =
+    let read : slice_get (elements_in (node_data from)) n ≡ Some (node_data node) =
+    rw (at, is, array_elements children, same) (read_mapped child_data children.items n child there) in (
+      read,
+      beside_stands from node spot n beside (rw (at, is) (search (rules, the_lemmas))) read
+          (λ own. inl (rw (at, is) (search (rules, the_lemmas)))) (λ counted s. comes_alike (λ q. rw (
+            at,
+            is,
+            array_seen children from.start s,
+            read_mapped child_origins children.items n child there,
+          ) refl) comes),
+    )

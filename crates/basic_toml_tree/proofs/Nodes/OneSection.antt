@@ -1,122 +1,174 @@
--- Where rows put something at a key of a table that headers made, or below it, they are rows of one section: those of
--- two would clash.
-use Rattle.std.proofs.Common.{◌≡◌, inl, inr, ◌+◌, ℕ, zero, suc, Bool, true, false, List, [], ◌∷◌, ◌++◌}
-use Rattle.std.proofs.Common.{Some, refl, ap, sym, ◌∙◌, arith, slice_get, map, append_assoc}
-use Rattle.std.specs.Prelude.{◌||◌, if◌then◌else◌, IfSome}
+-- Which keys rows lead over: rows that tell something past a step go over it, and tell of it, too. So where rows put
+-- something at a key of a table that headers made, or below it, they are rows of one section: those of two would clash.
+use Rattle.std.proofs.Common.{◌≡◌, ◌⊎◌, inl, inr, ℕ, true, false, List, [], ◌∷◌, ◌++◌, Option, Some, None, refl, sym}
+use Rattle.std.proofs.Common.{◌∙◌, arith, ◌+◌, zero, suc, Bool, ap, slice_get, append_assoc, length, drop}
+use Rattle.std.proofs.lemmas.Bool.{false≢true, and_parts, or_parts, cases_Bool}
+use Rattle.basic_toml_grammar.specs.Sections.{KeyTexts, texts, Raw, Rows, no_rows, Key, row}
+use Rattle.basic_toml_grammar.specs.Steps.{Step, key, Path, step_eq, begins, steps_of, number}
+use Rattle.basic_toml_grammar.specs.IndexedPath.{Located}
+use Rattle.basic_toml_grammar.specs.SectionClash.{row_crossed, any_row_clashes, without_last_number, target}
+use Rattle.basic_toml_grammar.specs.SectionClash.{same_path, any_pair, clashes, clashes_one_way}
+use Rattle.basic_toml_grammar.specs.Entering.{keyed_within}
+use Rattle.basic_toml_grammar.proofs.Clash.ClashesAgree.{turn_eq, crossed_is}
+use Rattle.basic_toml_grow.specs.Origins.{Origin, Origins, entry, table_origin, row_origins, value_origins}
+use Rattle.basic_toml_grow.specs.Origins.{rows_origins, along}
+use Rattle.basic_toml_tree.proofs.Origins.RowsAreNodes.{begins_on, goes_on, along_on, begins_front}
+use Rattle.std.specs.Prelude.{is_some}
 use Rattle.std.specs.List.{list_any, list_all}
-use Rattle.std.proofs.lemmas.Bool.{false≢true, false_from_ne_true, and_parts, or_left, or_right, or_parts, or_cases}
-use Rattle.std.proofs.lemmas.List.Sums.{AllPass-from_list_all}
-use Rattle.std.proofs.lemmas.Map.Keys.{any_passes_from_place}
-use Rattle.std.proofs.lemmas.Option.{IfSome_then, get_or_from_slice_get, slice_get_within}
-use Rattle.basic_toml_grammar.specs.Sections.{KeyTexts, Section}
-use Rattle.basic_toml_grammar.specs.Steps.{Step, key, number, Path, path_eq, begins, steps_of}
-use Rattle.basic_toml_grammar.specs.IndexedPath.{Located, located}
-use Rattle.basic_toml_grammar.specs.SectionClash.{without_last_number, target, inner_beginnings, same_path}
-use Rattle.basic_toml_grammar.specs.SectionClash.{array_on_cut, row_crossed, any_row_clashes, clashes_one_way, clashes}
-use Rattle.basic_toml_grammar.specs.SectionClash.{any_pair, sections_clash}
-use Rattle.basic_toml_grammar.specs.Entering.{keyed_within, all_keyed_within}
+use Rattle.basic_toml_grammar.specs.Placed.{is_short}
 use Rattle.basic_toml_grammar.specs.Nodes.{is_made}
+use Rattle.basic_toml_grammar.proofs.AmongElements.{Among, first, next}
+use Rattle.basic_toml_grammar.proofs.Clash.MarksTellPlaces.{crosses_after}
 use Rattle.basic_toml_grammar.proofs.Clash.PathsAgree.{append_none}
-use Rattle.basic_toml_grammar.proofs.Clash.StepTestsDecide.{begins_itself, paths_same}
-use Rattle.basic_toml_grow.specs.Origins.{Origin, along, rows_origins}
+use Rattle.basic_toml_grammar.proofs.Clash.StepTestsDecide.{step_is, paths_same}
 use Rattle.basic_toml_grow.specs.Ways.{sections_origins}
+use Rattle.basic_toml_tree.proofs.HeadersMake.{any_of}
 use Rattle.basic_toml_tree.proofs.Nodes.KeysLead.{Beyond, compare}
-use Rattle.basic_toml_tree.proofs.Nodes.RowKeys.{Of, along_bears, rows_bear}
-use Rattle.basic_toml_tree.proofs.Nodes.RowNodesTold.{located_keyed}
-use Rattle.basic_toml_tree.proofs.Nodes.RowsReach.{rows_told, along_tells, Over, GoneOn, rows_over}
-use Rattle.basic_toml_tree.proofs.Nodes.WhatIsThere.{cases_Option}
-use Rattle.basic_toml_tree.proofs.Origins.RowsAreNodes.{along_on}
+use Rattle.basic_toml_tree.proofs.Nodes.Lines.{goes_by, none_passes}
 
--- sections of the list by their numbers
-none_at : (f : Located → Bool) (ls : List Located) → list_any f ls ≡ false → (m : ℕ) (l : Located)
-    → slice_get ls m ≡ Some l → f l ≡ false
-none_at f ls none m l there =
-    false_from_ne_true _ (λ e. false≢true (sym none ∙ any_passes_from_place f ls m l there e))
+-- Rows of the section with this number tell something.
+abbrev pub Told : ℕ → Option Origin → Type 0
+Told n o = (x : Origin) × (o ≡ Some x) × (x.section ≡ n) × (x.made ≡ false)
 
-all_at : (f : Located → Bool) (ls : List Located) → list_all f ls ≡ true → (m : ℕ) (l : Located)
-    → slice_get ls m ≡ Some l → f l ≡ true
-all_at f ls all m l there =
-    rw (get_or_from_slice_get ls m l l there) at (AllPass-from_list_all f ls all m l (slice_get_within _ _ _ there))
+value_told : (n at : ℕ) (v : Raw) → Told n (value_origins n at v [])
+value_told n at (Raw.array es) = (_, refl, refl, refl)
+value_told n at v = (_, refl, refl, refl)
 
-abbrev At : (Located → Bool) → List Located → Type 0
-At f ls = (m : ℕ) × (l : Located) × (slice_get ls m ≡ Some l) × (f l ≡ true)
+entry_below : (d : Origin) (g : Origins) (y : Path) (s : Step) (r : Path) → entry d g (y ++ s ∷ r) ≡ g (y ++ s ∷ r)
+entry_below d g [] s r = refl
+entry_below d g (t ∷ y) s r = refl
 
-some_at : (f : Located → Bool) (ls : List Located) → list_any f ls ≡ true → At f ls
-some_at f [] some = absurd (false≢true some)
-some_at f (i ∷ ls) some = elim (or_cases _ _ some) [
-  | inl here ↦ (0, i, refl, here)
-  | inr later ↦ let at = some_at f ls later in (suc at.0, at.1, at.2, at.3)
+-- a row that does not end before a step: it goes over the step, and tells of it, or tells nothing from there on
+module _ (d : Origin) (f : Origins) where
+  row_none : (ks : KeyTexts) (y : Path) (s : Step) (r : Path) → begins (steps_of ks) y ≡ false
+      → begins (y ++ s ∷ []) (steps_of ks) ≡ false → row_origins ks d f (y ++ s ∷ r) ≡ None
+  row_none [] y s r not off = absurd (false≢true (sym not))
+  row_none (k ∷ ks) [] s r not off = grind arith
+  row_none (k ∷ []) (t ∷ y) s r not off = grind (arith, turn_eq t (key k))
+  row_none (k ∷ l ∷ ks) (t ∷ y) s r not off =
+      grind (
+        arith,
+        turn_eq t (key k),
+        entry_below d (row_origins (l ∷ ks) d f) y s r,
+        row_none (l ∷ ks) y s r,
+      )
+
+  row_some : (n : ℕ) → Told n (Some d) → Told n (f []) → (ks : KeyTexts) (y : Path) (s : Step)
+      → begins (y ++ s ∷ []) (steps_of ks) ≡ true → Told n (row_origins ks d f (y ++ s ∷ []))
+  row_some n own value [] [] s on = absurd (false≢true on)
+  row_some n own value [] (t ∷ y) s on = absurd (false≢true on)
+  row_some n own value (k ∷ []) [] s on = rw ((and_parts (step_eq s (key k)) true on).0) value
+  row_some n own value (k ∷ l ∷ ks) [] s on = rw ((and_parts (step_eq s (key k)) true on).0) own
+  row_some n own value (k ∷ []) (t ∷ y) s on =
+      let both = and_parts (step_eq t (key k)) _ on in rw (both.0) (row_some n own value [] y s both.1)
+  row_some n own value (k ∷ l ∷ ks) (t ∷ y) s on =
+      let both = and_parts (step_eq t (key k)) _ on in
+      rw (both.0, entry_below d (row_origins (l ∷ ks) d f) y s []) (row_some n own value (l ∷ ks) y s both.1)
+
+-- Some row of a section goes over a step; it crosses no header that none of the rows crosses.
+pub record Over (w : Path) (rows : Rows) (y : Path) (s : Step) : Type 0 where
+  pub keys : KeyTexts
+  pub on : begins (y ++ s ∷ []) (steps_of keys) ≡ true
+  pub crossed : (j : Located) → any_row_clashes w rows j ≡ false → row_crossed w (steps_of keys) j ≡ false
+  pub told : (n : ℕ) → Told n (rows_origins n rows (y ++ s ∷ []))
+
+-- No row ends before the step: a header goes on to it on which no row ends.
+abbrev pub GoneOn : Path → Rows → Path → Type 0
+GoneOn w rows y = (y ≡ []) ⊎ ((j : Located) × (begins (w ++ y) j.path ≡ true) × (any_row_clashes w rows j ≡ false))
+
+not_ended : (w : Path) (k : Key) (ks : List Key) (at : ℕ) (v : Raw) (rows : Rows) (y : Path)
+    → GoneOn w (row (k ∷ ks) at v rows) y → begins (steps_of (texts (k ∷ ks))) y ≡ false
+not_ended w k ks at v rows y (inl none) = rw none refl
+not_ended w k ks at v rows y (inr gone) =
+    let steps = steps_of (texts (k ∷ ks)) in
+    grind (arith, gone.1, gone.2, goes_on (w ++ steps) (w ++ y) gone.0.path, begins_on w steps y)
+
+pub rows_over : (w : Path) (rows : Rows) (y : Path) (s : Step) → keyed_within rows ≡ true → GoneOn w rows y
+    → ((n : ℕ) (r : Path) → rows_origins n rows (y ++ s ∷ r) ≡ None) ⊎ Over w rows y s
+rows_over w no_rows y s keyed gone = inl (λ n r. refl)
+rows_over w (row [] at v rows) y s keyed gone = absurd (false≢true keyed)
+rows_over w (row (k ∷ ks) at v rows) y s keyed gone = elim (cases_Bool (begins (y ++ s ∷ []) (steps_of keys))) [
+  | inl on ↦ inr (record {
+    keys = keys;
+    on = on;
+    crossed = λ j none. (or_parts _ _ (or_parts _ _ none).0).1;
+    told = λ n.
+        let d = table_origin false at n in
+        let first = row_some d (value_origins n at v) n (d, refl, refl, refl) (value_told n at v) keys y s on in
+        rw (first.1) (first.0, refl, first.2, first.3);
+  })
+  | inr off ↦
+      let none = λ (n : ℕ) (r : Path). row_none (table_origin false at n) (value_origins n at v) keys y s r
+      (not_ended w k ks at v rows y gone) off in
+      elim (rows_over w rows y s (and_parts _ _ keyed).1 later) [
+        | inl more ↦ inl (λ n r. rw (none n r) (more n r))
+        | inr over ↦ inr (record {
+          keys = over.keys;
+          on = over.on;
+          crossed = λ j none. over.crossed j (or_parts _ _ none).1;
+          told = λ n. rw (none n []) (over.told n);
+        })
+      ]
 ]
+  where
+    keys : KeyTexts
+    keys = texts (k ∷ ks)
 
-pairs_apart : (ls : List Located) → any_pair clashes ls ≡ false → (a b : ℕ) (i j : Located) → slice_get ls a ≡ Some i
-    → slice_get ls b ≡ Some j → (a ≡ b → ⊥) → clashes_one_way i j ≡ false
-pairs_apart [] none a b i j at_a at_b other = absurd (cc)
-pairs_apart (l ∷ ls) none zero zero i j at_a at_b other = absurd (other refl)
-pairs_apart (l ∷ ls) none zero (suc b) i j at_a at_b other =
-    let is : l ≡ i = cc in
-    rw (← is) (or_parts _ _ (none_at (clashes l) ls (or_parts _ _ none).0 b j at_b)).0
-pairs_apart (l ∷ ls) none (suc a) zero i j at_a at_b other =
-    let is : l ≡ j = cc in
-    rw (← is) (or_parts _ _ (none_at (clashes l) ls (or_parts _ _ none).0 a i at_a)).1
-pairs_apart (l ∷ ls) none (suc a) (suc b) i j at_a at_b other =
-    pairs_apart ls (or_parts _ _ none).1 a b i j at_a at_b (λ e. other (ap suc e))
+    later : GoneOn w rows y
+    later = elim gone [ inl none ↦ inl none | inr on ↦ inr (on.0, on.1, (or_parts _ _ on.2).1) ]
+
+-- sections of the list, by what all of them are, and by the place of one
+all_pass : {l : Located} {ls : List Located} (f : Located → Bool) → list_all f ls ≡ true → Among l ls → f l ≡ true
+all_pass f all first = (and_parts _ _ all).0
+all_pass f all (next a) = all_pass f (and_parts _ _ all).1 a
+
+among_at : (ls : List Located) (m : ℕ) (l : Located) → slice_get ls m ≡ Some l → Among l ls
+among_at [] m l there = absurd (cc)
+among_at (i ∷ ls) zero l there = let is : i ≡ l = cc in rw is first
+among_at (i ∷ ls) (suc m) l there = next (among_at ls m l there)
+
+pub pairs_apart : {i j : Located} {ls : List Located} → any_pair clashes ls ≡ false → Among i ls → Among j ls
+    → (i ≡ j) ⊎ (clashes_one_way i j ≡ false)
+pairs_apart none first first = inl refl
+pairs_apart none first (next b) = inr (or_parts _ _ (none_passes (clashes _) (or_parts _ _ none).0 b)).0
+pairs_apart none (next a) first = inr (or_parts _ _ (none_passes (clashes _) (or_parts _ _ none).0 a)).1
+pairs_apart none (next a) (next b) = pairs_apart (or_parts _ _ none).1 a b
 
 -- a header below a section's table, on whose path its row goes on
-last_key : (u : Step) (b : Path) (ks : KeyTexts) (z : Path) → steps_of ks ≡ (u ∷ b) ++ z
-    → without_last_number (u ∷ b) ≡ u ∷ b
-last_key u b [] z is = absurd (cc)
-last_key (number n) b (l ∷ ks) z is = let bad : key l ≡ number n = cc in absurd (cc)
-last_key (key k) [] (l ∷ ks) z is = refl
-last_key (key k) (t ∷ b) (l ∷ ks) z is =
-    let rest : steps_of ks ≡ (t ∷ b) ++ z = cc in ap (λ p. key k ∷ p) (last_key t b ks z rest)
-
-keeps_last : (w : Path) (u : Step) (b : Path) → without_last_number (u ∷ b) ≡ u ∷ b
+kept_whole : (w : Path) (u : Step) (b : Path) (ks : KeyTexts) → begins (u ∷ b) (steps_of ks) ≡ true
     → without_last_number (w ++ u ∷ b) ≡ w ++ u ∷ b
-keeps_last [] u b e = e
-keeps_last (s ∷ []) u b e = ap (λ p. s ∷ p) e
-keeps_last (s ∷ v ∷ w) u b e = ap (λ p. s ∷ p) (keeps_last (v ∷ w) u b e)
+kept_whole [] u b [] on = absurd (false≢true on)
+kept_whole [] (key k) [] (l ∷ ks) on = refl
+kept_whole [] (number n) [] (l ∷ ks) on = absurd (false≢true on)
+kept_whole [] u (t ∷ b) (l ∷ ks) on = ap (λ p. u ∷ p) (kept_whole [] t b ks (and_parts _ _ on).1)
+kept_whole (s ∷ []) u b ks on = ap (λ p. s ∷ p) (kept_whole [] u b ks on)
+kept_whole (s ∷ v ∷ w) u b ks on = ap (λ p. s ∷ p) (kept_whole (v ∷ w) u b ks on)
 
 target_is : (j : Located) → without_last_number j.path ≡ j.path → target j ≡ j.path
-target_is j e =
-    elim j.section.is_array as (λ a. (if a then without_last_number j.path else j.path) ≡ j.path) [
-      | true ↦ e
-      | false ↦ refl
-    ]
+target_is j e = grind arith
 
-any_on : (u : Step) (f : Path → Bool) (ps : List Path)
-    → list_any f (map (λ p. u ∷ p) ps) ≡ list_any (λ p. f (u ∷ p)) ps
-any_on u f [] = refl
-any_on u f (p ∷ ps) = ap (λ b. f (u ∷ p) || b) (any_on u f ps)
-
-among_inner : (u : Step) (b : Path) (t : Step) (x : Path) (f : Path → Bool) → f (u ∷ b) ≡ true
-    → list_any f (inner_beginnings ((u ∷ b) ++ t ∷ x)) ≡ true
-among_inner u [] t x f e = or_left _ _ e
-among_inner u (v ∷ b) t x f e =
-    or_right _ _ (any_on u f (inner_beginnings ((v ∷ b) ++ t ∷ x)) ∙ among_inner v b t x (λ p. f (u ∷ p)) e)
-
-crosses : (i j : Located) (ks : KeyTexts) (u : Step) (b : Path) (t : Step) (x : Path) → j.path ≡ i.path ++ u ∷ b
-    → steps_of ks ≡ (u ∷ b) ++ t ∷ x → row_crossed i.path (steps_of ks) j ≡ true
-crosses i j ks u b t x below is =
-    let same : target j ≡ i.path ++ u ∷ b =
-    target_is j (rw below (keeps_last i.path u b (last_key u b ks (t ∷ x) is))) ∙ below in
-    rw is (among_inner u b t x (λ c. path_eq (i.path ++ c) (target j)) (rw same (paths_same (i.path ++ u ∷ b))))
-
-begun : (z : Path) (s : Step) (more : Path) → (t : Step) × (x : Path) × (z ++ s ∷ more ≡ t ∷ x)
-begun [] s more = (s, more, refl)
-begun (t ∷ z) s more = (t, z ++ s ∷ more, refl)
+shorter : (b z : Path) (s : Step) (q : Path) → begins (b ++ (z ++ s ∷ [])) q ≡ true → is_short b q ≡ true
+shorter [] [] s [] on = absurd (false≢true on)
+shorter [] (t ∷ z) s [] on = absurd (false≢true on)
+shorter [] z s (t ∷ q) on = refl
+shorter (u ∷ b) z s [] on = absurd (false≢true on)
+shorter (u ∷ b) z s (t ∷ q) on = let both = and_parts (step_eq u t) _ on in rw (both.0) (shorter b z s q both.1)
 
 further_clashes : (i j : Located) (y z : Path) (s : Step) → Beyond i.path y j.path z
     → Over i.path i.section.rows y s → clashes_one_way i j ≡ false → ⊥
 further_clashes i j y z s ([], at, rest) over apart =
-    let one = (or_parts (same_path i j) (array_on_cut i j || any_row_clashes i.path i.section.rows j) apart).0 in
+    let one : same_path i j ≡ false = (or_parts _ _ apart).0 in
     false≢true (sym one ∙ rw (at, append_none i.path) (paths_same i.path))
 further_clashes i j y z s (u ∷ b, at, rest) over apart =
-    let row = (or_parts _ _ (or_parts _ _ apart).1).1 in
-    let on = begun z s over.more in
-    false≢true (sym (over.crossed j row) ∙ crosses i j over.keys u b on.0 on.1 at
-    (rw (over.is, rest, append_assoc b z (s ∷ over.more), on.2) refl))
+    let steps = steps_of over.keys in
+    let on : begins ((u ∷ b) ++ (z ++ s ∷ [])) steps ≡ true = rw (rest, append_assoc (u ∷ b) z (s ∷ [])) at over.on in
+    let whole = kept_whole i.path u b over.keys (begins_front (u ∷ b) (z ++ s ∷ []) steps on) in
+    let same : target j ≡ i.path ++ u ∷ b = target_is j (rw at whole) ∙ at in
+    let crossed : row_crossed i.path steps j ≡ true =
+    rw (crossed_is i.path steps (target j), same) (crosses_after i.path (u ∷ b) steps (shorter (u ∷ b) z s steps on)) in
+    false≢true (sym (over.crossed j (or_parts _ _ (or_parts _ _ apart).1).1) ∙ crossed)
 
-no_longer : (w : Path) (u : Step) (y : Path) → begins (w ++ u ∷ y) w ≡ true → ⊥
+pub no_longer : (w : Path) (u : Step) (y : Path) → begins (w ++ u ∷ y) w ≡ true → ⊥
 no_longer [] u y e = false≢true e
 no_longer (s ∷ w) u y e = no_longer w u y (and_parts _ _ e).1
 
@@ -125,155 +177,102 @@ made_by : (ls : List Located) (w : Path) (u : Step) (y : Path) → is_made ls (w
 made_by ls [] u y e = e
 made_by ls (v ∷ w) u y e = e
 
-key_in : (ks : KeyTexts) (y : Path) (s : Step) (more : Path) → steps_of ks ≡ y ++ s ∷ more
-    → (k : List ℕ) × (s ≡ key k)
-key_in [] [] s more is = absurd (cc)
-key_in [] (t ∷ y) s more is = absurd (cc)
-key_in (l ∷ ks) [] s more is = let first : s ≡ key l = cc in (l, first)
-key_in (l ∷ ks) (t ∷ y) s more is = let rest : steps_of ks ≡ y ++ s ∷ more = cc in key_in ks y s more rest
+-- the step after a beginning of keys is a key
+key_in : (ks : KeyTexts) (y : Path) (s : Step) → begins (y ++ s ∷ []) (steps_of ks) ≡ true → (k : List ℕ) × (s ≡ key k)
+key_in [] [] s on = absurd (false≢true on)
+key_in [] (t ∷ y) s on = absurd (false≢true on)
+key_in (l ∷ ks) [] s on = (l, step_is s (key l) (and_parts _ _ on).0)
+key_in (l ∷ ks) (t ∷ y) s on = key_in ks y s (and_parts _ _ on).1
 
--- the section that tells of a path
-abbrev Teller : ℕ → List Located → Path → Type 0
-Teller n later p = (m : ℕ) × (l : Located) × (slice_get later m ≡ Some l)
-    × (x : Origin) × (along l.path (rows_origins (n + m) l.section.rows) p ≡ Some x)
+-- what a path tells nothing of that goes on elsewhere
+along_apart : (w q : Path) (s : Step) (r : Path) (f : Origins) → begins w q ≡ false → begins (q ++ s ∷ []) w ≡ false
+    → along w f (q ++ s ∷ r) ≡ None
+along_apart [] q s r f not back = absurd (false≢true (sym not))
+along_apart (t ∷ w) [] s r f not back = grind arith
+along_apart (t ∷ w) (u ∷ q) s r f not back = grind (arith, turn_eq t u, along_apart w q s r f)
 
-teller : (n : ℕ) (later : List Located) (p : Path) (o : Origin) → sections_origins n later p ≡ Some o
-    → Teller n later p
-teller n [] p o told = absurd (cc)
-teller n (l ∷ later) p o told = elim (cases_Option (along l.path (rows_origins n l.section.rows) p)) [
-  | inl none ↦
-      let at = teller (suc n) later p o (rw none at told) in
-      let is : n + suc at.0 ≡ suc n + at.0 = omega arith in (suc at.0, at.1, at.2, at.3, rw is at.4)
-  | inr some ↦ let is : n + 0 ≡ n = omega arith in (0, l, refl, some.0, rw is some.1)
-]
-
--- a section below whose table the step is, or something further on, stands before the step
-pub stands_before : (ls : List Located) (q : Path) (s : Step)
-    → list_any (λ l. begins (q ++ s ∷ []) l.path) ls ≡ false → (m : ℕ) (l : Located) → slice_get ls m ≡ Some l
-    → (r x : Path) → q ++ s ∷ r ≡ l.path ++ x → (y : Path) × (q ≡ l.path ++ y) × (y ++ s ∷ r ≡ x)
-stands_before ls q s not m l there r x same = elim (compare q (s ∷ r) l.path x same) [
-  | inl on ↦ short on
-  | inr on ↦ (on.0, on.1, sym on.2)
-]
-  where
-    short : Beyond q (s ∷ r) l.path x → (y : Path) × (q ≡ l.path ++ y) × (y ++ s ∷ r ≡ x)
-    short ([], at, rest) = ([], sym (append_none l.path ∙ at ∙ append_none q), rest)
-    short (u ∷ b, at, rest) =
-        let first : s ≡ u = cc in
-        absurd (false≢true (sym (none_at (λ l. begins (q ++ s ∷ []) l.path) ls not m l there)
-        ∙ rw (at, ← first, ← (append_assoc q (s ∷ []) b)) (begins_itself (q ++ s ∷ []) b)))
-
--- What rows put below a key that no header names or passes through, of a table that headers made: rows put something
--- at that key, too, and of the same section.
-abbrev pub Entry : Path → Step → ℕ → List Located → Origin → Type 0
-Entry q s n later o = (k : List ℕ) × (s ≡ key k) × (x : Origin)
-    × (sections_origins n later (q ++ s ∷ []) ≡ Some x) × (x.section ≡ o.section)
+-- What rows put below a key that no header names or passes through, of a table that headers made: rows of the same
+-- section put something at that key, too.
+pub record Entry (ls : List Located) (q : Path) (s : Step) (l : Located) (m : ℕ) : Type 0 where
+  pub key_is : (k : List ℕ) × (s ≡ key k)
+  pub told : Told m (sections_origins 0 ls (q ++ s ∷ []))
+  pub before : (y : Path) × (q ≡ l.path ++ y)
 
 -- a list in which no two sections clash, and a step that no header takes on from where some go
 module _ (ls : List Located) (apart : any_pair clashes ls ≡ false)
     (keyed : list_all (λ l. keyed_within l.section.rows) ls ≡ true) (q : Path) (s : Step)
     (made : is_made ls q ≡ true) (not : list_any (λ l. begins (q ++ s ∷ []) l.path) ls ≡ false)
   where
-    abbrev Passes : Located → Type 0
-    Passes l = (y : Path) × (q ≡ l.path ++ y) × Over l.path l.section.rows y s
+    -- some row of the section goes over the step
+    record Passes (l : Located) : Type 0 where
+      y : Path
+      at : q ≡ l.path ++ y
+      over : Over l.path l.section.rows y s
 
-    gone_on : (m : ℕ) (l : Located) → slice_get ls m ≡ Some l → (y : Path) → q ≡ l.path ++ y
-        → GoneOn l.path l.section.rows y
-    gone_on m l there [] at = inl refl
-    gone_on m l there (u ∷ y) at =
-        let some = some_at (λ j. begins (l.path ++ u ∷ y) j.path) ls (made_by ls l.path u y (rw at at made)) in
-        inr (some.1, some.3, rows_apart some.0 some.1 some.2 some.3)
-      where
-        rows_apart : (b : ℕ) (j : Located) → slice_get ls b ≡ Some j → begins (l.path ++ u ∷ y) j.path ≡ true
-            → any_row_clashes l.path l.section.rows j ≡ false
-        rows_apart b j at_b on =
-            let one = pairs_apart ls apart m b l j there at_b (λ e.
-            let same : l ≡ j = cc (e, there, at_b) in no_longer l.path u y (rw (← same) at on)) in
-            (or_parts (array_on_cut l j) (any_row_clashes l.path l.section.rows j)
-            (or_parts (same_path l j) (array_on_cut l j || any_row_clashes l.path l.section.rows j) one).1).1
+    gone_on : {l : Located} → Among l ls → (y : Path) → q ≡ l.path ++ y → GoneOn l.path l.section.rows y
+    gone_on a [] at = inl refl
+    gone_on {l = l} a (u ∷ y) at =
+        let j = any_of (λ j. begins (l.path ++ u ∷ y) j.path) ls (made_by ls l.path u y (rw at at made)) in
+        inr (
+          j.0,
+          j.2,
+          elim (pairs_apart apart a j.1) [
+            | inl same ↦ absurd (no_longer l.path u y (rw (← same) at j.2))
+            | inr one ↦ (or_parts _ _ (or_parts _ _ one).1).1
+          ],
+        )
 
-    passes : (n m : ℕ) (l : Located) → slice_get ls m ≡ Some l → (r : Path)
-        → IfSome (along l.path (rows_origins n l.section.rows) (q ++ s ∷ r)) (λ o. Passes l)
-    passes n m l there r =
-        let f = rows_origins n l.section.rows in
-        IfSome_then (along l.path f (q ++ s ∷ r)) (along_tells l.path f (q ++ s ∷ r))
-        (λ o on. go o on.0 on.2 (stands_before ls q s not m l there r on.0 on.1))
-      where
-        go : (o : Origin) (x : Path) → rows_origins n l.section.rows x ≡ Some o
-            → (y : Path) × (q ≡ l.path ++ y) × (y ++ s ∷ r ≡ x) → Passes l
-        go o x told at =
-            let over = rows_over n l.path l.section.rows at.0 s r
-            (all_at (λ l. keyed_within l.section.rows) ls keyed m l there) (gone_on m l there at.0 at.1) in
-            (at.0, at.1, rw (at.2, told) at over)
+    way : (l : Located) (y : Path) → q ≡ l.path ++ y → (r : Path) (f : Origins)
+        → along l.path f (q ++ s ∷ r) ≡ f (y ++ s ∷ r)
+    way l y at r f = rw (at, append_assoc l.path y (s ∷ r)) (along_on l.path (y ++ s ∷ r) f)
 
-    -- two of them
-    never_two : (a b : ℕ) (i j : Located) → slice_get ls a ≡ Some i → slice_get ls b ≡ Some j → (a ≡ b → ⊥)
-        → Passes i → Passes j → ⊥
-    never_two a b i j at_a at_b other one two = elim (compare i.path one.0 j.path two.0 (sym one.1 ∙ two.1)) [
-      | inl on ↦ further_clashes i j one.0 two.0 s on one.2 (pairs_apart ls apart a b i j at_a at_b other)
-      | inr on ↦
-          further_clashes j i two.0 one.0 s on two.2 (pairs_apart ls apart b a j i at_b at_a (λ e. other (sym e)))
+    passes : {l : Located} → Among l ls
+        → ((n : ℕ) (r : Path) → along l.path (rows_origins n l.section.rows) (q ++ s ∷ r) ≡ None) ⊎ Passes l
+    passes {l = l} a = elim (cases_Bool (begins l.path q)) [
+      | inl on ↦
+          let y = drop (length l.path) q in
+          let at = goes_by l.path q on in
+          elim (rows_over l.path l.section.rows y s (all_pass (λ l. keyed_within l.section.rows) keyed a)
+          (gone_on a y at)) [
+            | inl none ↦ inl (λ n r. way l y at r (rows_origins n l.section.rows) ∙ none n r)
+            | inr over ↦ inr (record { y = y; at = at; over = over })
+          ]
+      | inr off ↦
+          let back = none_passes (λ l. begins (q ++ s ∷ []) l.path) not a in
+          inl (λ n r. along_apart l.path q s r (rows_origins n l.section.rows) off back)
     ]
 
-    first_entry : (n m : ℕ) (l : Located) (later : List Located) → slice_get ls m ≡ Some l → (r : Path) (o : Origin)
-        → along l.path (rows_origins n l.section.rows) (q ++ s ∷ r) ≡ Some o → Entry q s n (l ∷ later) o
-    first_entry n m l later there r o told =
-        let f = rows_origins n l.section.rows in
-        let at = rw told at (passes n m l there r) in
-        let way : (r : Path) → along l.path f (q ++ s ∷ r) ≡ f (at.0 ++ s ∷ r) =
-        λ r. ap (λ q. along l.path f (q ++ s ∷ r)) at.1
-        ∙ rw (append_assoc l.path at.0 (s ∷ r)) (along_on l.path (at.0 ++ s ∷ r) f) in
-        let front = rw (sym (way r) ∙ told) at (rows_told n l.section.rows at.0 s r) in
-        let here : along l.path f (q ++ s ∷ []) ≡ Some front.0 = way [] ∙ front.1 in
-        let k = key_in at.2.keys at.0 s at.2.more at.2.is in (
-          k.0,
-          k.1,
-          front.0,
-          rw here refl,
-          (rw here at (bears (q ++ s ∷ []))) ∙ sym (rw told at (bears (q ++ s ∷ r))),
-        )
-      where
-        bears : (p : Path) → IfSome (along l.path (rows_origins n l.section.rows) p) (Of n)
-        bears p = along_bears l.path (rows_origins n l.section.rows) (Of n) (λ p. rows_bear n l.section.rows p) p
+    -- two of them
+    never_two : (i j : Located) → Passes i → Passes j → clashes i j ≡ false → ⊥
+    never_two i j one two free = elim (compare i.path one.y j.path two.y (sym one.at ∙ two.at)) [
+      | inl on ↦ further_clashes i j one.y two.y s on one.over (or_parts _ _ free).0
+      | inr on ↦ further_clashes j i two.y one.y s on two.over (or_parts _ _ free).1
+    ]
 
-    later_entry : (n m : ℕ) (l : Located) (later : List Located) → slice_get ls m ≡ Some l
-        → ((b : ℕ) (j : Located) → slice_get later b ≡ Some j → (c : ℕ) × (slice_get ls c ≡ Some j) × (m ≡ c → ⊥))
-        → (o : Origin) → Entry q s (suc n) later o → Entry q s n (l ∷ later) o
-    later_entry n m l later there within o at =
-        elim (cases_Option (along l.path (rows_origins n l.section.rows) (q ++ s ∷ []))) [
-          | inl none ↦ (at.0, at.1, at.2, rw none at.3, at.4)
-          | inr some ↦
-              let other = teller (suc n) later (q ++ s ∷ []) at.2 at.3 in
-              let where_j = within other.0 other.1 other.2 in
-              absurd (never_two m where_j.0 l other.1 there where_j.1 where_j.2
-              (rw (some.1) at (passes n m l there []))
-              (rw (other.4) at (passes (suc n + other.0) where_j.0 other.1 where_j.1 [])))
-        ]
+    first_told : (n : ℕ) (later : List Located) → any_pair clashes later ≡ false
+        → ((j : Located) → Among j later → Among j ls) → (m : ℕ) (l : Located) → slice_get later m ≡ Some l → Passes l
+        → (k : ℕ) → n + m ≡ k → Told k (sections_origins n later (q ++ s ∷ []))
+    first_told n [] free within m l there one k is = absurd (cc)
+    first_told n (i ∷ later) free within zero l there one k is =
+        let same : i ≡ l = cc in
+        let first : n ≡ k = omega arith in
+        let told = one.over.told k in
+        rw (first, same, way l one.y one.at [] (rows_origins k l.section.rows), told.1) (told.0, refl, told.2, told.3)
+    first_told n (i ∷ later) free within (suc m) l there one k is = elim (passes (within i first)) [
+      | inl none ↦
+          rw (none n []) (first_told (suc n) later (or_parts _ _ free).1 (λ j a. within j (next a)) m l there one k
+          (omega arith))
+      | inr other ↦
+          absurd (never_two i l other one (none_passes (clashes i) (or_parts _ _ free).0 (among_at later m l there)))
+    ]
 
-    entries_bear : (n : ℕ) (later : List Located) → ((m : ℕ) (l : Located) → slice_get later m ≡ Some l
-        → slice_get ls (n + m) ≡ Some l) → (r : Path)
-        → IfSome (sections_origins n later (q ++ s ∷ r)) (Entry q s n later)
-    entries_bear n [] within r = tt
-    entries_bear n (l ∷ later) within r =
-        elim (cases_Option (along l.path (rows_origins n l.section.rows) (q ++ s ∷ r))) [
-          | inl none ↦
-              rw none (IfSome_then (sections_origins (suc n) later (q ++ s ∷ r)) (entries_bear (suc n) later on r)
-              (λ o at. later_entry n (n + 0) l later (within 0 l refl) elsewhere o at))
-          | inr some ↦ rw (some.1) (first_entry n (n + 0) l later (within 0 l refl) r some.0 some.1)
-        ]
-      where
-        on : (m : ℕ) (j : Located) → slice_get later m ≡ Some j → slice_get ls (suc n + m) ≡ Some j
-        on m j at =
-            let is : suc n + m ≡ n + suc m = omega arith in rw is (within (suc m) j at)
-
-        elsewhere : (b : ℕ) (j : Located) → slice_get later b ≡ Some j
-            → (c : ℕ) × (slice_get ls c ≡ Some j) × (n + 0 ≡ c → ⊥)
-        elsewhere b j at = (suc n + b, on b j at, λ e. let bad : n + 0 ≡ suc n + b = e in absurd (omega (arith, bad)))
-
-pub entry_bears : (sections : List Section) → sections_clash sections ≡ false → all_keyed_within sections ≡ true
-    → (q : Path) (s : Step) (r : Path) → is_made (located sections) q ≡ true
-    → list_any (λ l. begins (q ++ s ∷ []) l.path) (located sections) ≡ false
-    → IfSome (sections_origins 0 (located sections) (q ++ s ∷ r)) (Entry q s 0 (located sections))
-entry_bears sections apart keyed q s r made not =
-    entries_bear (located sections) apart (located_keyed [] sections ∙ keyed) q s made not 0 (located sections)
-    (λ m l at. let is : 0 + m ≡ m = omega arith in rw is at) r
+    pub entry_at : (m : ℕ) (l : Located) → slice_get ls m ≡ Some l → (r : Path)
+        → is_some (along l.path (rows_origins 0 l.section.rows) (q ++ s ∷ r)) ≡ true → Entry ls q s l m
+    entry_at m l there r some = elim (passes (among_at ls m l there)) [
+      | inl none ↦ absurd (false≢true (rw (none 0 r) at some))
+      | inr one ↦ record {
+        key_is = key_in one.over.keys one.y s one.over.on;
+        told = first_told 0 ls apart (λ j a. a) m l there one m (omega arith);
+        before = (one.y, one.at);
+      }
+    ]

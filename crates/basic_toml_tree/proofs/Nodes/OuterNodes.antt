@@ -1,27 +1,28 @@
 -- The outer offset of a node is where the table around it begins, by the section list alone.
+use Rattle.std.proofs.Common.{arith, drop, length}
 use Rattle.std.proofs.Common.{◌≡◌, inl, inr, ℕ, true, false, List, [], ◌∷◌, ◌++◌, Option, Some, None, refl, sym, ◌∙◌}
 use Rattle.std.specs.Prelude.{not}
 use Rattle.std.specs.List.{list_any, list_all}
 use Rattle.std.specs.Option.{option_or}
-use Rattle.std.proofs.lemmas.Bool.{false≢true, and_parts, or_parts, cases_Bool}
+use Rattle.std.proofs.lemmas.Bool.{false≢true, false_from_ne_true, and_parts, or_parts}
 use Rattle.std.proofs.lemmas.List.Folds.{list_any-append}
-use Rattle.basic_toml_value.specs.Data.{Data}
-use Rattle.basic_toml_grammar.specs.Sections.{Key, KeyTexts, Rows, no_rows, row}
-use Rattle.basic_toml_grammar.specs.Steps.{Path, step_eq, begins}
+use Rattle.basic_toml_grammar.specs.Sections.{Key, KeyTexts, texts, Rows, no_rows, row}
+use Rattle.basic_toml_grammar.specs.Steps.{key, Path, begins, steps_of}
+use Rattle.basic_toml_grammar.specs.SectionClash.{any_pair, clashes, any_row_clashes}
+use Rattle.basic_toml_tree.proofs.Nodes.OneSection.{no_longer, pairs_apart}
 use Rattle.basic_toml_grammar.specs.RowClash.{rows_clash}
 use Rattle.basic_toml_grammar.specs.IndexedPath.{Located}
 use Rattle.basic_toml_grammar.specs.Entering.{keyed_within}
-use Rattle.basic_toml_grammar.specs.Mentions.{finished, row_mentions, mentions}
+use Rattle.basic_toml_grammar.specs.Mentions.{mentions}
+use Rattle.basic_toml_grammar.specs.Nodes.{front, node_in}
 use Rattle.basic_toml_grammar.specs.Nodes.{Node, is_made, start_in, first_start, holder, node_of_rows, node_of_sections}
-use Rattle.basic_toml_grammar.specs.Tree.{Mention}
-use Rattle.basic_toml_grammar.proofs.AmongElements.{Among, first, next, among_left, among_right, among_either}
-use Rattle.basic_toml_grammar.proofs.Clash.ClashesAgree.{turn_eq}
-use Rattle.basic_toml_grammar.proofs.Nesting.TreeIsAsDeepAsMentions.{bars, barred_by, mention, Peace, none, more}
+use Rattle.basic_toml_grammar.proofs.AmongElements.{Among, first, next, among_either}
+use Rattle.basic_toml_grammar.proofs.Nesting.TreeIsAsDeepAsMentions.{Peace}
 use Rattle.basic_toml_tree.specs.Outer.{around}
 use Rattle.basic_toml_tree.specs.Stands.{is_root}
 use Rattle.basic_toml_tree.proofs.HeadersMake.{any_of}
 use Rattle.basic_toml_tree.proofs.Nodes.Lines.{Line, path_of, choose, start_among, meets, Apart, Found, within}
-use Rattle.basic_toml_tree.proofs.Nodes.Lines.{begun, by_rows, found, none_passes}
+use Rattle.basic_toml_tree.proofs.Nodes.Lines.{begun, by_rows, found}
 use Rattle.basic_toml_tree.proofs.Nodes.LinesOfRows.{lines_of, names_of, all_lines, all_sound, apart_all, no_base}
 use Rattle.basic_toml_tree.proofs.Origins.RowsAreNodes.{goes_on, neither_begins}
 
@@ -33,8 +34,7 @@ module _ (ls : List Located) (last : Option ℕ) where
   rows_lines l (row ks at v rows) p = rw (rows_lines l rows p) refl
 
 one_none : (n : Option Node) → option_or n None ≡ n
-one_none None = refl
-one_none (Some n) = refl
+one_none n = grind arith
 
 module _ (holder : Path → Option ℕ) (p : Path) where
   -- below a line no other one leads to anything
@@ -42,24 +42,19 @@ module _ (holder : Path → Option ℕ) (p : Path) where
       → choose holder fs p ≡ None
   none_there e [] on free = refl
   none_there e (f ∷ fs) on free =
-      let split = or_parts _ _ free in
-      let other = neither_begins (path_of e) (path_of f) p on split.0 in
-      rw (other.0, other.1) (none_there e fs on split.1)
+      grind (arith, neither_begins (path_of e) (path_of f) p on, none_there e fs on)
 
   joined : (es fs : List Line) → Apart (es ++ fs)
       → option_or (choose holder es p) (choose holder fs p) ≡ choose holder (es ++ fs) p
   joined [] fs apart = refl
-  joined (e ∷ es) fs (Apart.more free apart) = elim (cases_Bool (begins (path_of e) p)) [
-    | inl x ↦ rw (x, none_there e fs x (fs_free es free)) (one_none _)
-    | inr x ↦ elim (cases_Bool (begins p (path_of e))) [
-      | inl y ↦ rw (x, y) refl
-      | inr y ↦ rw (x, y) (joined es fs apart)
-    ]
-  ]
-    where
-      fs_free : (es : List Line) → list_any (meets e) (es ++ fs) ≡ false → list_any (meets e) fs ≡ false
-      fs_free [] free = free
-      fs_free (g ∷ es) free = fs_free es (or_parts _ _ free).1
+  joined (e ∷ es) fs (Apart.more free apart) =
+      grind (
+        arith,
+        list_any-append (meets e) es fs,
+        none_there e fs,
+        joined es fs apart,
+        one_none (node_in e.names (holder (front (path_of e))) e.at e.value (drop (length (path_of e)) p)),
+      )
 
 apart_rest : (es fs : List Line) → Apart (es ++ fs) → Apart fs
 apart_rest [] fs apart = apart
@@ -85,10 +80,7 @@ starts_rows base name (row ks at v rows) p = rw (starts_rows base name rows p) r
 starts_both : (es fs : List Line) (p : Path)
     → option_or (start_among es p) (start_among fs p) ≡ start_among (es ++ fs) p
 starts_both [] fs p = refl
-starts_both (e ∷ es) fs p = elim (cases_Bool (begins p (path_of e))) [
-  | inl x ↦ rw x refl
-  | inr x ↦ rw x (starts_both es fs p)
-]
+starts_both (e ∷ es) fs p = grind (arith, starts_both es fs p)
 
 starts_all : (ls : List Located) (p : Path) → first_start ls p ≡ start_among (all_lines ls) p
 starts_all [] p = refl
@@ -108,55 +100,43 @@ base_all p (l ∷ ls) not =
     ) (base_all p ls split.1)
 
 -- no header leads to what is below a row
-value_bars : (p q : Path) (d : Data) → begins p q ≡ true
-    → (bars p (Some d) q None ≡ true) × (bars q None p (Some d) ≡ true)
-value_bars [] [] d on = (refl, refl)
-value_bars [] (t ∷ q) d on = (refl, refl)
-value_bars (s ∷ p) [] d on = absurd (false≢true on)
-value_bars (s ∷ p) (t ∷ q) d on =
-    let both = and_parts (step_eq s t) (begins p q) on in
-    let rest = value_bars p q d both.1 in
-    (rw (both.0) rest.0, rw (turn_eq t s, both.0) rest.1)
+row_from : {e : Line} (base : Path) (name : List Key → KeyTexts) (rows : Rows) → keyed_within rows ≡ true
+    → Among e (lines_of base name rows)
+    → (begins (path_of e) base ≡ false)
+    × ((j : Located) → any_row_clashes base rows j ≡ false → begins (path_of e) j.path ≡ false)
+row_from base name no_rows keyed a = elim a [ ]
+row_from base name (row [] at v rows) keyed a = absurd (false≢true keyed)
+row_from base name (row (k ∷ ks) at v rows) keyed first = (
+  false_from_ne_true _ (no_longer base (key k.text) (steps_of (texts ks))),
+  λ j free. (or_parts _ _ (or_parts _ _ free).0).0,
+)
+row_from base name (row (k ∷ ks) at v rows) keyed (next a) =
+    let more = row_from base name rows (and_parts _ _ keyed).1 a in
+    (more.0, λ j free. more.1 j (or_parts _ _ free).1)
 
--- two mentions, of which one has a value and the other none, do not bar each other
-not_both : {ms : List Mention} (m n : Mention) (d : Data) → m.value ≡ Some d → n.value ≡ None → Peace ms → Among m ms
-    → Among n ms → barred_by m n ≡ true → barred_by n m ≡ true → ⊥
-not_both m n d is bare none a b x y = elim a [ ]
-not_both m n d is bare (more free peace) first first x y = absurd (cc (is, bare))
-not_both m n d is bare (more free peace) first (next b) x y = false≢true (sym (none_passes (barred_by m) free b) ∙ x)
-not_both m n d is bare (more free peace) (next a) first x y = false≢true (sym (none_passes (barred_by n) free a) ∙ y)
-not_both m n d is bare (more free peace) (next a) (next b) x y = not_both m n d is bare peace a b x y
-
-abbrev mention_of : Line → Mention
-mention_of e = mention (path_of e) (Some (finished e.value))
-
-lines_mentioned : (e : Line) (base : Path) (name : List Key → KeyTexts) (rows : Rows)
-    → Among e (lines_of base name rows) → Among (mention_of e) (row_mentions base rows)
-lines_mentioned e base name no_rows a = elim a [ ]
-lines_mentioned e base name (row ks at v rows) first = first
-lines_mentioned e base name (row ks at v rows) (next a) = next (lines_mentioned e base name rows a)
-
-all_mentioned : (e : Line) (ls : List Located) → Among e (all_lines ls) → Among (mention_of e) (mentions ls)
-all_mentioned e [] a = elim a [ ]
-all_mentioned e (l ∷ ls) a = elim (among_either (lines_of l.path (names_of l) l.section.rows) (all_lines ls) a) [
-  | inl a ↦ among_left (mentions ls) (next (lines_mentioned e l.path (names_of l) l.section.rows a))
-  | inr a ↦ among_right (mention l.path None ∷ row_mentions l.path l.section.rows) (all_mentioned e ls a)
+line_from : {e : Line} (ls : List Located) → list_all (λ l. keyed_within l.section.rows) ls ≡ true
+    → Among e (all_lines ls)
+    → (l : Located) × Among l ls × (begins (path_of e) l.path ≡ false)
+    × ((j : Located) → any_row_clashes l.path l.section.rows j ≡ false → begins (path_of e) j.path ≡ false)
+line_from [] keyed a = elim a [ ]
+line_from (l ∷ ls) keyed a = elim (among_either (lines_of l.path (names_of l) l.section.rows) (all_lines ls) a) [
+  | inl a ↦
+      let here = row_from l.path (names_of l) l.section.rows (and_parts _ _ keyed).0 a in (l, first, here.0, here.1)
+  | inr a ↦ let more = line_from ls (and_parts _ _ keyed).1 a in (more.0, next more.1, more.2, more.3)
 ]
 
-paths_mentioned : (l : Located) (ls : List Located) → Among l ls → Among (mention l.path None) (mentions ls)
-paths_mentioned l [] a = elim a [ ]
-paths_mentioned l (k ∷ ls) first = first
-paths_mentioned l (k ∷ ls) (next a) =
-    among_right (mention k.path None ∷ row_mentions k.path k.section.rows) (paths_mentioned l ls a)
-
-not_made_below : (ls : List Located) → Peace (mentions ls) → (e : Line) → Among e (all_lines ls) → (p : Path)
+not_made_below : (ls : List Located) → any_pair clashes ls ≡ false
+    → list_all (λ l. keyed_within l.section.rows) ls ≡ true → (e : Line) → Among e (all_lines ls) → (p : Path)
     → begins (path_of e) p ≡ true → is_root p ≡ false → is_made ls p ≡ true → ⊥
-not_made_below ls peace e a [] on some made = false≢true (sym some)
-not_made_below ls peace e a (s ∷ p) on some made =
-    let l = any_of (λ l. begins (s ∷ p) l.path) ls made in
-    let bar = value_bars (path_of e) l.0.path (finished e.value) (goes_on (path_of e) (s ∷ p) l.0.path on l.2) in
-    not_both (mention_of e) (mention l.0.path None) (finished e.value) refl refl peace (all_mentioned e ls a)
-    (paths_mentioned l.0 ls l.1) bar.0 bar.1
+not_made_below ls free keyed e a [] on some made = false≢true (sym some)
+not_made_below ls free keyed e a (s ∷ p) on some made =
+    let l = line_from ls keyed a in
+    let j = any_of (λ l. begins (s ∷ p) l.path) ls made in
+    let below = goes_on (path_of e) (s ∷ p) j.0.path on j.2 in
+    elim (pairs_apart free l.1 j.1) [
+      | inl same ↦ false≢true (sym l.2 ∙ rw (← same) at below)
+      | inr one ↦ false≢true (sym (l.3 j.0 (or_parts _ _ (or_parts _ _ one).1).1) ∙ below)
+    ]
 
 -- The outer offset of a node that headers did not make: that of the last section where headers made the table around
 -- it, else where that table begins.
@@ -165,29 +145,30 @@ pub record OuterBegins (ls : List Located) (last : Option ℕ) (q : Path) (n : N
   pub row : is_made ls q ≡ false
       → (m : Node) × (node_of_sections ls last ls q ≡ Some m) × (n.outer_offset ≡ m.start)
 
-module _ (ls : List Located) (last : Option ℕ) (peace : Peace (mentions ls)) where
-  pub outer_begins : list_any (λ l. rows_clash l.section.rows) ls ≡ false
-      → list_all (λ l. keyed_within l.section.rows) ls ≡ true → (p : Path) → is_made ls p ≡ false → (n : Node)
-      → node_of_sections ls last ls p ≡ Some n → OuterBegins ls last (around p) n
-  outer_begins free keyed [] not n is = absurd (false≢true (sym not))
-  outer_begins free keyed (s ∷ p) not n is =
-      go (found (holder ls last) (s ∷ p) (all_lines ls) apart (all_sound ls free keyed) (base_all (s ∷ p) ls not) n
-      (sym (sections_lines ls last ls (s ∷ p) apart) ∙ is))
-    where
-      apart : Apart (all_lines ls)
-      apart = apart_all ls peace
+module _ (ls : List Located) (last : Option ℕ) (peace : Peace (mentions ls)) (clash : any_pair clashes ls ≡ false)
+  where
+    pub outer_begins : list_any (λ l. rows_clash l.section.rows) ls ≡ false
+        → list_all (λ l. keyed_within l.section.rows) ls ≡ true → (p : Path) → is_made ls p ≡ false → (n : Node)
+        → node_of_sections ls last ls p ≡ Some n → OuterBegins ls last (around p) n
+    outer_begins free keyed [] not n is = absurd (false≢true (sym not))
+    outer_begins free keyed (s ∷ p) not n is =
+        go (found (holder ls last) (s ∷ p) (all_lines ls) apart (all_sound ls free keyed) (base_all (s ∷ p) ls not) n
+        (sym (sections_lines ls last ls (s ∷ p) apart) ∙ is))
+      where
+        apart : Apart (all_lines ls)
+        apart = apart_all ls peace
 
-      go : Found (holder ls last) (s ∷ p) (all_lines ls) n → OuterBegins ls last (around (s ∷ p)) n
-      go (within m e a ends here chosen same) = record {
-        made = λ made. absurd (not_made_below ls peace e a (around (s ∷ p)) here
-            (begun (path_of e) (around (s ∷ p)) ends here) made);
-        row = λ other. (m, sections_lines ls last ls (around (s ∷ p)) apart ∙ chosen, same);
-      }
-      go (by_rows m chosen start same) = record {
-        made = λ made. same ∙ rw made refl;
-        row = λ other. (
-          m,
-          sections_lines ls last ls (around (s ∷ p)) apart ∙ chosen,
-          same ∙ rw (other, starts_all ls (around (s ∷ p)), start) refl,
-        );
-      }
+        go : Found (holder ls last) (s ∷ p) (all_lines ls) n → OuterBegins ls last (around (s ∷ p)) n
+        go (within m e a ends here chosen same) = record {
+          made = λ made. absurd (not_made_below ls clash keyed e a (around (s ∷ p)) here
+              (begun (path_of e) (around (s ∷ p)) ends here) made);
+          row = λ other. (m, sections_lines ls last ls (around (s ∷ p)) apart ∙ chosen, same);
+        }
+        go (by_rows m chosen start same) = record {
+          made = λ made. same ∙ rw made refl;
+          row = λ other. (
+            m,
+            sections_lines ls last ls (around (s ∷ p)) apart ∙ chosen,
+            same ∙ rw (other, starts_all ls (around (s ∷ p)), start) refl,
+          );
+        }

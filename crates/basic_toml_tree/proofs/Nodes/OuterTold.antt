@@ -1,5 +1,5 @@
 -- The outer offset of a node, as the tree has it and as the section list foretells it.
-use Rattle.std.proofs.Common.{◌≡◌, inl, inr, ℕ, true, false, List, [], ◌∷◌, Option, Some, None, refl, ap, sym, ◌∙◌}
+use Rattle.std.proofs.Common.{arith, ◌≡◌, inl, inr, ℕ, true, false, List, [], ◌∷◌, Option, Some, None, refl, sym, ◌∙◌}
 use Rattle.std.specs.Prelude.{IfSome}
 use Rattle.std.specs.Option.{option_or}
 use Rattle.std.proofs.lemmas.Bool.{cases_Bool}
@@ -18,17 +18,15 @@ use Rattle.basic_toml_tree.proofs.Nodes.MadeNodes.{made_in_trie, last_same}
 use Rattle.basic_toml_tree.proofs.Nodes.OuterNodes.{OuterBegins, outer_begins}
 use Rattle.basic_toml_tree.proofs.Nodes.RowNodesTold.{RowTold, no_clash, row_told, rows_free, rows_keyed, some_both}
 use Rattle.basic_toml_tree.proofs.Nodes.RowNodesTold.{told_same}
-use Rattle.basic_toml_tree.proofs.Nodes.WhatIsThere.{if_there}
-use Rattle.basic_toml_tree.proofs.Origins.RowsAreNodes.{Same, of_node, of_origin}
+use Rattle.basic_toml_tree.proofs.Nodes.NodesOfValues.{if_there}
+use Rattle.basic_toml_tree.proofs.Origins.RowsAreNodes.{Same}
 
 -- where a row begins, and that it is kept
 begins_same : (m : grammar.Node) (kept : Option ℕ) (o : Option Origin) → Same (Some m) o
     → IfSome o (λ o. o.made ≡ false → kept ≡ Some o.start)
     → (start : ℕ) × (m.start ≡ Some start) × (kept ≡ Some start)
 begins_same m kept None same row = absurd (cc)
-begins_same m kept (Some o) same row =
-    let both : of_node m ≡ of_origin o = cc in
-    (o.start, ap (λ t. t.start) both, row (sym (ap (λ t. t.made) both)))
+begins_same m kept (Some o) same row = (o.start, grind arith, grind arith)
 
 module _ (sections : List Section) (p : Path) (node : Node) (is : IsNodeAt sections p node) where
   none_kept : (q : Path) → StartIsKept node.tree.now q node.outer → grammar.is_made (located sections) q ≡ true
@@ -66,5 +64,6 @@ module _ (sections : List Section) (p : Path) (node : Node) (is : IsNodeAt secti
       some_both (grammar.node_at sections p) (row_told sections p node is not)
       (rw not (if_there (grammar.node_of_sections ls last ls p) (λ n there. outer_is n (outer_begins ls last
       (mentions_peace sections is.keyed (no_clash sections is.resolved).0 (no_clash sections is.resolved).1)
+      (no_clash sections is.resolved).1
       (rows_free sections is.resolved) (rows_keyed sections is.resolved) p not n there))))
       (λ found told outer. (told, outer))

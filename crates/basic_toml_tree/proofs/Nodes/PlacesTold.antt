@@ -1,7 +1,7 @@
 -- The offset that names a node in errors, by the section list: where the node begins, but for an array the outer
 -- offset.
-use Rattle.std.proofs.Common.{◌≡◌, ◌⊎◌, inl, inr, ℕ, Bool, true, false, List, [], ◌∷◌, Option, refl, ap}
-use Rattle.std.proofs.Common.{sym, ◌∙◌, rules, codes, length, drop, ◌++◌}
+use Rattle.std.proofs.Common.{arith, ◌≡◌, ◌⊎◌, inl, inr, ℕ, Bool, true, false, List, [], ◌∷◌, Option, refl, ap, sym}
+use Rattle.std.proofs.Common.{◌∙◌, rules, codes, ◌++◌}
 use Rattle.std.specs.Prelude.{IfSome}
 use Rattle.std.specs.Option.{option_or}
 use Rattle.std.specs.Str.{bytes_eq}
@@ -9,27 +9,21 @@ use Rattle.basic_toml_grammar.specs.Sections.{KeyTexts, texts, Raw, Rows, no_row
 use Rattle.basic_toml_grammar.specs.Steps.{Path, begins, steps_of}
 use Rattle.basic_toml_grammar.specs.IndexedPath.{Located, located}
 use Rattle.basic_toml_grammar.specs.NamedClash.{first_key}
-use Rattle.basic_toml_grammar.specs.Nodes.{Node, front, value_node, dotted_node, node_in}
-use Rattle.basic_toml_grammar.specs.Nodes.{holder, node_of_rows, node_of_sections, node_at, is_made, last_at, raw_name}
+use Rattle.basic_toml_grammar.specs.Nodes.{Node, value_node, node_of_rows, node_of_sections, node_at, is_made, last_at}
+use Rattle.basic_toml_grammar.specs.Nodes.{raw_name}
 use Rattle.basic_toml_read.specs.declared.section.Raw as raws
 use Rattle.basic_toml_read.specs.declared.section.Raw.TheOpen.{Raw-F}
 use Rattle.basic_toml_read.specs.declared.section.Element.{Element}
 use Rattle.basic_toml_read.specs.declared.section.Row.{Row}
 use Rattle.basic_toml_read.specs.declared.section.Rows as code_rows
 use Rattle.basic_toml_read.specs.SectionView.{raw_of}
-use Rattle.std.proofs.lemmas.Bool.{false≢true}
-use Rattle.basic_toml_grow.specs.declared.item.Item.{Item, out-Item}
-use Rattle.basic_toml_grow.specs.declared.item.Item.TheOpen.{Item-F}
-use Rattle.basic_toml_grow.specs.declared.item.Child.{Child}
-use Rattle.basic_toml_grow.specs.declared.item.Table.{Table}
 use Rattle.basic_toml_tree.specs.declared.node.Node as nodes
 use Rattle.basic_toml_tree.specs.declared.spot.Spot.{Spot}
 use Rattle.basic_toml_tree.specs.declared.spot.Spot.TheVariants as spots
-use Rattle.basic_toml_tree.specs.Origin.{is_array_literal, item_name, spot_name, spot_is_made, holds_tables, start_of}
-use Rattle.basic_toml_tree.specs.Origin.{outer_of, offset_of, item_is_literal, raw_is_array, last_at as tree_last}
-use Rattle.basic_toml_tree.proofs.Nodes.NodesOfValues.{one_of, in_value}
+use Rattle.basic_toml_tree.specs.Origin.{is_array_literal, spot_name, spot_is_made, start_of, outer_of, offset_of}
+use Rattle.basic_toml_tree.specs.Origin.{raw_is_array, last_at as tree_last}
+use Rattle.basic_toml_tree.proofs.Nodes.NodesOfValues.{one_of, in_value, or_some}
 use Rattle.basic_toml_tree.proofs.Nodes.RowNodesTold.{RowTold}
-use Rattle.basic_toml_tree.proofs.Nodes.WhatIsThere.{or_some}
 
 abbrev names_array : List ℕ → Bool
 names_array name = bytes_eq name (codes "array")
@@ -50,12 +44,9 @@ rows_plain ls last l no_rows p = tt
 rows_plain ls last l (row ks at v rows) p =
     let path = l.path ++ steps_of (texts ks) in
     let key_path = texts l.section.header ++ first_key ks in
-    one_of (begins path p) (begins p path)
-    (node_in key_path (holder ls last (front path)) at v (drop (length path) p)) (node_of_rows ls last l rows p)
-    (dotted_node key_path (holder ls last (front p)) at) Plain
-    (λ _. in_value key_path Plain (value_plain key_path) (λ outer at. inr (refl, refl)) (holder ls last (front path)) at
-    v (drop (length path) p)) (λ _. inr (refl, refl))
-    (rows_plain ls last l rows p)
+    one_of (begins path p) (begins p path) _ _ Plain
+    (λ _. in_value key_path Plain (value_plain key_path) (λ outer at. inr (refl, refl)) _ at v _)
+    (λ _. inr (refl, refl)) (rows_plain ls last l rows p)
 
 sections_plain : (ls : List Located) (last : Option ℕ) (later : List Located) (p : Path)
     → IfSome (node_of_sections ls last later p) Plain
@@ -71,13 +62,7 @@ plain_at sections p not = rw not (sections_plain (located sections) (last_at sec
 literal_name : (count : ℕ) (spot : Spot) → spot_is_made count spot ≡ false
     → names_array (spot_name count spot) ≡ is_array_literal spot
 literal_name count (spots.Table b) not = rw not refl
-literal_name count (spots.Item b) not = go (out-Item b.now) not
-  where
-    go : (x : Item-F Item Child Table) → holds_tables x ≡ false
-        → names_array (item_name x) ≡ item_is_literal x
-    go (Item-F.Tables y) not = absurd (false≢true (sym not))
-    go (Item-F.Sections y) not = absurd (false≢true (sym not))
-    go x not = refl
+literal_name count (spots.Item b) not = grind arith
 literal_name count (spots.Plain b) not =
     ap (λ v. names_array (raw_name (raw_of v))) (sym (raws.roll-out-Raw b.value.now)) ∙ go (raws.out-Raw b.value.now)
   where
@@ -92,8 +77,4 @@ module _ (node : nodes.Node) (found : Node) (told : RowTold node found) where
       → offset_of node ≡ found.offset
   unfolding offset_of start_of outer_of
   row_place outer plain =
-      let named = ap names_array (sym told.name) ∙ literal_name node.count node.spot told.made in
-      elim plain [
-        | inl array ↦ rw (told.made, ← named, array.0) (outer ∙ sym array.1)
-        | inr other ↦ rw (told.made, ← named, other.0) (told.start ∙ sym other.1)
-      ]
+      grind (arith, told.made, told.name, told.start, literal_name node.count node.spot told.made)

@@ -1,6 +1,6 @@
 -- The nodes of plain values, and of the elements of arrays of them.
 use Rattle.std.proofs.Common.{◌≡◌, ℕ, false, List, [], ◌∷◌, map, length, Some, refl, sym, ap, ◌∙◌, rules}
-use Rattle.std.specs.Prelude.{slice_get, ◌≤◌, Option, None, IfSome, IfNone, MatchOption, ⊤}
+use Rattle.std.specs.Prelude.{slice_get, IfSome}
 use Rattle.std.proofs.lemmas.List.{length-map}
 use Rattle.basic_toml_grammar.specs.Mentions.{finished, finished_elements}
 use Rattle.basic_toml_grammar.specs.Nodes.{raw_name, raw_is_slice}
@@ -20,10 +20,10 @@ use Rattle.basic_toml_tree.specs.declared.spot.Spot.TheVariants as spots
 use Rattle.basic_toml_tree.specs.Nodes as seen
 use Rattle.basic_toml_tree.specs.Origin.{is_string}
 use Rattle.basic_toml_grow.specs.Origins.{value_origins, elements_origins}
-use Rattle.basic_toml_tree.specs.Stands.{SpotComes, ComesFrom, IsPlainElement, spot_origins, node_origins, AtNumber}
+use Rattle.basic_toml_tree.specs.Stands.{SpotComes, ComesFrom, IsPlainElement, spot_origins, node_origins}
 use Rattle.basic_toml_tree.proofs.Nodes.NodesInOrder.{read_mapped}
 use Rattle.basic_toml_tree.proofs.Nodes.NodesCome.{comes_alike}
-use Rattle.basic_toml_tree.proofs.Nodes.WhatIsThere.{all_so}
+use Rattle.basic_toml_tree.proofs.Nodes.NodesOfValues.{if_there}
 
 -- elements, one after another
 datas_placed : (ls : List Placed) → seen.listed (finished_elements (elements_from ls)) ≡ map (λ e. finished e.value) ls
@@ -70,7 +70,7 @@ pub value_comes : (v : PlainValue) (spot : Spot) → spot ≡ spots.Plain v → 
 value_comes v spot is count at s = rw is (record {
   section = s;
   own = rw (← (plain_slice v.value.now)) (own_is (raw_of v.value.now) at s);
-  marked = all_so (value_origins s at (raw_of v.value.now) []) ⊤ tt;
+  marked = if_there (value_origins s at (raw_of v.value.now) []) (λ o is. tt);
   parts = λ r q. refl;
 })
 
@@ -85,22 +85,6 @@ module _ (from node : Node) (es : List Element) (n : ℕ) (is : IsPlainElement f
         read_mapped (λ e. value_origins s e.offset e.value) (map placed_of es) n _ is.placed,
       ) refl)
       (value_comes is.plain node.spot is.spot node.count node.start s)
-
--- what is answered for a number of an array of plain elements
-pub plain_given : (from : Node) (es : List Element) (n : ℕ) (result : Option Node)
-    → seen.node_data from ≡ finished (plain_array es) → IfNone result (length es ≤ n)
-    → IfSome result (IsPlainElement from es n)
-    → ((node : Node) → IsPlainElement from es n node
-    → slice_get (seen.elements_in (seen.node_data from)) n ≡ Some (seen.node_data node) → AtNumber from n node)
-    → MatchOption result (length (seen.elements_in (seen.node_data from)) ≤ n)
-    (λ node. slice_get (seen.elements_in (seen.node_data from)) n ≡ Some (seen.node_data node))
-    × IfSome result (AtNumber from n)
-plain_given from es n None is past some stands =
-    (rw (is, plain_length es) past, tt)
-plain_given from es n (Some node) is past some stands =
-    let read : slice_get (seen.elements_in (seen.node_data from)) n ≡ Some (seen.node_data node) =
-    rw (is, some.spot) (plain_read es n node.start (raw_of some.plain.value.now) some.placed) in
-    (read, stands node some read)
 
 -- an element, and its value
 pub element_placed : (e : Element)

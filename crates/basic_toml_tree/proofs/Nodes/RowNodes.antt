@@ -1,184 +1,102 @@
 -- The nodes of the rows of an inline table with plain values.
-use Rattle.std.proofs.Common.{◌≡◌, ◌<◌, ◌≤◌, ◌+◌, inl, inr, ℕ, zero, suc, Bool, true, false, List, [], ◌∷◌, ◌++◌}
-use Rattle.std.proofs.Common.{Some, None, map, length, take, drop, get_or, refl, ap, sym, ◌∙◌}
-use Rattle.std.proofs.Common.{arith, rules, IsTrue, Vec, Global}
-use Rattle.std.specs.Prelude.{if◌then◌else◌, slice_get}
-use Rattle.std.specs.Option.{option_or}
+use Rattle.std.proofs.Common.{◌≡◌, ◌≤◌, ◌+◌, inl, ℕ, true, false, List, [], ◌∷◌, ◌++◌, Some, None, map, length}
+use Rattle.std.proofs.Common.{drop, refl, ap, sym, ◌∙◌, arith, rules, IsTrue}
+use Rattle.std.specs.Prelude.{slice_get}
 use Rattle.std.specs.Borrow.{Bor}
-use Rattle.std.specs.Str.{bytes_eq}
-use Rattle.std.proofs.lemmas.Bool.{false≢true, and_parts, or_parts, false_from_ne_true, not-true}
-use Rattle.std.proofs.lemmas.List.{take_more, map-append, length-map, drop_all}
-use Rattle.std.proofs.lemmas.Option.{get_or_from_slice_get, slice_get_read, slice_get_within}
+use Rattle.std.proofs.lemmas.Bool.{false≢true}
+use Rattle.std.proofs.lemmas.List.{length-map, drop_all}
 use Rattle.std.specs.Iterator.{MakesProgress, item_count}
 use Rattle.std.specs.declared.iter.Iterator.{can_next-default}
-use Rattle.basic_toml_value.specs.Data.{Data, members_of}
 use Rattle.basic_toml_index.specs.Keys.{is_among, are_distinct}
-use Rattle.basic_toml_index.proofs.DistinctKeys.{bytes_eq-same, bytes_eq_other, first_differs, is_among-push}
-use Rattle.basic_toml_grammar.specs.IndexedPath.{located}
 use Rattle.basic_toml_grammar.specs.Mentions.{finished}
-use Rattle.basic_toml_grammar.specs.Nodes as grammar
-use Rattle.basic_toml_grammar.specs.Sections.{Section}
-use Rattle.basic_toml_value.specs.Pairs.{keys_of as pair_keys}
+use Rattle.basic_toml_value.specs.Pairs.{keys_of as pair_keys, value_at}
 use Rattle.basic_toml_grammar.specs.Steps.{key, Path}
-use Rattle.basic_toml_grammar.specs.Trie.{nothing, standing, below}
+use Rattle.basic_toml_grammar.specs.Trie.{nothing, below}
 use Rattle.basic_toml_read.specs.SectionView.{raw_of, rows_seen}
 use Rattle.basic_toml_read.specs.declared.section.Raw as raws
 use Rattle.basic_toml_read.specs.declared.section.Raw.TheOpen.{Raw-F}
 use Rattle.basic_toml_read.specs.declared.section.Element.{Element}
 use Rattle.basic_toml_read.specs.declared.section.Row.{Row, out-Row}
 use Rattle.basic_toml_read.specs.declared.section.Rows as code_rows
-use Rattle.basic_toml_read.proofs.NextRow.{lone_row, lined_is}
-use Rattle.basic_toml_plain.specs.Plain.{key_of, is_plain, are_simple, are_few_simple, plain_data, plain_table}
-use Rattle.basic_toml_plain.specs.Plain.{rows_data}
+use Rattle.basic_toml_plain.specs.Plain.{key_of, are_few_simple, plain_data, plain_table, rows_data}
 use Rattle.basic_toml_plain.specs.Tries.{leaf}
 use Rattle.basic_toml_plain.specs.Values.{row_pair}
-use Rattle.basic_toml_plain.proofs.SimpleKeys.{keys_differ}
 use Rattle.basic_toml_plain.proofs.RowsData.{few_data, row_keys}
-use Rattle.basic_toml_plain.proofs.PlainLeft.{row_at}
 use Rattle.basic_toml_grow.specs.Origins.{value_origins, rows_origins, entry}
 use Rattle.basic_toml_grow.specs.declared.item.Item.{Item, out-Item, the_lemmas}
 use Rattle.basic_toml_grow.specs.declared.item.Item.TheOpen.{Item-F}
 use Rattle.basic_toml_grow.specs.declared.item.Child.{Child}
 use Rattle.basic_toml_grow.specs.declared.item.Table.{Table}
 use Rattle.basic_toml_grow.proofs.ItemsStand.{shape}
-use Rattle.basic_toml_grow.proofs.Origins.OriginsSeen.{or_none}
-use Rattle.basic_toml_tree.specs.Keys.{CountsOn}
-use Rattle.basic_toml_tree.specs.Nodes.{node_data, spot_data, data_among, data_at, entries_in, entries_left}
-use Rattle.basic_toml_tree.specs.Nodes.{key_and_data}
+use Rattle.basic_toml_grow.proofs.Origins.OriginsSeen.{seen_at_key}
+use Rattle.basic_toml_grow.proofs.SectionTables.{entries_are, row_child_origins, section_within}
+use Rattle.basic_toml_grow.specs.Simple.{child_of, entries_of, section_table}
+use Rattle.basic_toml_tree.proofs.ItemData.{data_at_absent, data_at_found}
+use Rattle.basic_toml_tree.proofs.SectionData.{section_table_data}
+use Rattle.basic_toml_tree.specs.Nodes.{node_data, spot_data, data_at, entries_in, entries_left, key_and_data}
 use Rattle.basic_toml_tree.specs.Origin.{spot_is_made, holds_tables}
-use Rattle.basic_toml_tree.specs.Outer.{stands_made}
-use Rattle.basic_toml_tree.specs.Resolve.{IsResolved}
-use Rattle.basic_toml_tree.specs.Stands.{AtKey, IsRowAt, ComesFrom, HoldsRows, ItemRows, RawRows, IsPlainRow, StandsAt}
-use Rattle.basic_toml_tree.specs.Stands.{StandsOn, spot_trie, spot_origins, node_origins, tree_trie, trie_at}
-use Rattle.basic_toml_tree.specs.Stands.{is_wrapper, wraps_table, GivesEntry}
+use Rattle.basic_toml_tree.specs.Stands.{AtKey, ComesFrom, HoldsRows, ItemRows, RawRows, IsPlainRow, StandsAt, StandsOn}
+use Rattle.basic_toml_tree.specs.Stands.{spot_trie, spot_origins, node_origins, is_wrapper, wraps_table, GivesEntry}
 use Rattle.basic_toml_tree.specs.declared.entries.Entries.{Entries}
 use Rattle.basic_toml_tree.specs.declared.node.Node.{Node}
-use Rattle.basic_toml_tree.specs.declared.plain_value.PlainValue.{PlainValue}
 use Rattle.basic_toml_tree.specs.declared.spot.Spot.{Spot}
 use Rattle.basic_toml_tree.specs.declared.spot.Spot.TheVariants as spots
 use Rattle.basic_toml_tree.specs.declared.tree.Tree.{Tree}
 use Rattle.basic_toml_tree.proofs.Nodes.KeysLead.{KeepsKeys, rows_on}
-use Rattle.basic_toml_tree.proofs.Nodes.KeysTold.{count_keeps}
+use Rattle.basic_toml_tree.proofs.Nodes.KeysTold.{count_keeps, made_below}
 use Rattle.basic_toml_tree.proofs.Nodes.Lines.{around_key}
-use Rattle.basic_toml_tree.proofs.Nodes.MadeNodes.{made_in_trie, root_at, table_at}
+use Rattle.basic_toml_tree.proofs.Nodes.MadeNodes.{made_at}
 use Rattle.basic_toml_tree.proofs.Nodes.NodesCome.{comes_alike}
 use Rattle.basic_toml_tree.proofs.Nodes.NodesInOrder.{drop_next, paired-members, read_mapped, progress}
-use Rattle.basic_toml_tree.proofs.Nodes.NodesStand.{GivenAt, at_more, no_root, stands_on}
+use Rattle.basic_toml_tree.proofs.Nodes.NodesStand.{GivenAt, further, stands_on}
 use Rattle.basic_toml_tree.proofs.Nodes.OuterStands.{keeps_below}
 use Rattle.basic_toml_tree.proofs.Nodes.PlainNodes.{value_comes}
+use Rattle.basic_toml_tree.proofs.Nodes.EntryNodes.{plain_read, rows_differ, section_at, section_row_data}
 
--- none of the rows up to a position has a key
-pub none_passed : (rs : List Row) (n : ℕ) (r : Row) (k : List ℕ) → n < length rs → r ≡ get_or rs n r
-    → is_among (map key_of (take n rs)) k ≡ false → bytes_eq (key_of r) k ≡ false
-    → is_among (map key_of (take (n + 1) rs)) k ≡ false
-none_passed rs n r k within read before other =
-    rw (
-      take_more rs n r within,
-      ← read,
-      map-append key_of (take n rs) (r ∷ []),
-      is_among-push (map key_of (take n rs)) (key_of r) k,
-      before,
-      bytes_eq_other k (key_of r) other,
-    ) refl
-
--- the first of rows whose keys differ, and the others
-pub first_apart : (r : Row) (rs : List Row) → are_distinct (map key_of (r ∷ rs)) ≡ true
-    → (is_among (map key_of rs) (key_of r) ≡ false) × (are_distinct (map key_of rs) ≡ true)
-first_apart r rs differ =
-    let both = and_parts _ _ differ in
-    (not-true (is_among (map key_of rs) (key_of r)) both.0, both.1)
-
--- a later one has another key
-pub later_key : (x : Row) (rs : List Row) (n : ℕ) (r : Row) → are_distinct (map key_of (x ∷ rs)) ≡ true
-    → slice_get rs n ≡ Some r → bytes_eq (key_of r) (key_of x) ≡ false
-later_key x rs n r differ read =
-    first_differs (key_of x) (map key_of rs) n (key_of r) differ (read_mapped key_of rs n r read)
-
--- what rows tell of a key that none of them has
-no_data : (rs : List Row) (k : List ℕ) → is_among (map key_of rs) k ≡ false
-    → data_among (members_of (map row_pair rs)) k ≡ None
-no_data [] k apart = refl
-no_data (r ∷ rs) k apart =
-    let both = or_parts (bytes_eq k (key_of r)) (is_among (map key_of rs) k) apart in rw both.0 (no_data rs k both.1)
-
--- the origins of a row beside those of the others
-beside_origins : (s : ℕ) (r : Row) (rs : List Row) (k : List ℕ) (q : Path) (b : Bool) → bytes_eq k (key_of r) ≡ b
-    → rows_origins s (rows_seen [] (r ∷ rs)) (key k ∷ q)
-    ≡ option_or (if b then value_origins s (out-Row r).start (raw_of (out-Row r).value) q else None)
-    (rows_origins s (rows_seen [] rs) (key k ∷ q))
-beside_origins s r rs k q b same =
-    ap (λ rows. rows_origins s rows (key k ∷ q)) (lone_row r rs) ∙ rw (lined_is r, same) refl
-
-no_more_origins : (s : ℕ) (rs : List Row) (k : List ℕ) (q : Path) → is_among (map key_of rs) k ≡ false
-    → rows_origins s (rows_seen [] rs) (key k ∷ q) ≡ None
-no_more_origins s [] k q apart = refl
-no_more_origins s (r ∷ rs) k q apart =
-    let both = or_parts _ _ apart in
-    beside_origins s r rs k q false both.0 ∙ no_more_origins s rs k q both.1
-
--- and of the key that one of them has
-row_data : (rs : List Row) (n : ℕ) (r : Row) → are_distinct (map key_of rs) ≡ true → slice_get rs n ≡ Some r
-    → data_among (members_of (map row_pair rs)) (key_of r) ≡ Some (plain_data (out-Row r).value)
-row_data [] n r differ read = absurd (cc)
-row_data (x ∷ rs) zero r differ read = let same : x ≡ r = cc in rw (← same, bytes_eq-same (key_of x)) refl
-row_data (x ∷ rs) (suc n) r differ read =
-    rw (later_key x rs n r differ read) (row_data rs n r (first_apart x rs differ).1 read)
-
-own_origins : (s : ℕ) (rs : List Row) (n : ℕ) (r : Row) (q : Path) → are_distinct (map key_of rs) ≡ true
+-- the origins of a row are those of its value
+own_origins : (s : ℕ) (rs : List Row) (n : ℕ) (r : Row) (q : Path) → are_few_simple 0 rs ≡ true
     → slice_get rs n ≡ Some r
     → rows_origins s (rows_seen [] rs) (key (key_of r) ∷ q)
     ≡ value_origins s (out-Row r).start (raw_of (out-Row r).value) q
-own_origins s [] n r q differ read = absurd (cc)
-own_origins s (x ∷ rs) zero r q differ read =
-    let same : x ≡ r = cc in
-    rw (
-      ← same,
-      beside_origins s x rs (key_of x) q true (bytes_eq-same (key_of x)),
-      no_more_origins s rs (key_of x) q (first_apart x rs differ).0,
-    ) (or_none _)
-own_origins s (x ∷ rs) (suc n) r q differ read =
-    beside_origins s x rs (key_of r) q false (later_key x rs n r differ read)
-    ∙ own_origins s rs n r q (first_apart x rs differ).1 read
+own_origins s rs n r q simple read =
+    ap (λ w. w.below (key (key_of r) ∷ q)) (sym (section_within s rs simple))
+    ∙ seen_at_key (section_table s rs) (key_of r) q
+    ∙ rw (section_at rs simple s n r read, row_child_origins s r (plain_read rs simple n r read)) refl
 
--- a spot with the rows of an inline table within a plain value
-pub inline_holds : (spot : Spot) (v : PlainValue) (z : Vec Row Global) (rs : List Row) → spot ≡ spots.Plain v
-    → v.value.now ≡ raws.Inline z → rs ≡ z.items → HoldsRows spot rs
-inline_holds spot v z rs at is same =
-    let form : raws.out-Raw (raws.Inline z) ≡ Raw-F.Inline z = search (rules, raws.the_lemmas) in
-    rw (at, is, form) same
+-- a key that no row has
+no_entry : (s : ℕ) (rs : List Row) (k : List ℕ) → is_among (map key_of rs) k ≡ false
+    → value_at (entries_of s rs) k ≡ None
+no_entry s [] k apart = refl
+no_entry s (r ∷ rs) k apart = grind (arith, no_entry s rs k)
 
 -- what a spot with rows stands for
 pub record Means (spot : Spot) (rs : List Row) : Type 0 where
   pub trie : wraps_table spot ≡ false → spot_trie spot ≡ leaf (rows_data rs)
-  pub is_data : spot_data spot ≡ rows_data rs
   pub origins : (at s : ℕ) (k : List ℕ) (q : Path)
       → spot_origins spot at s (key k ∷ q) ≡ value_origins s at (plain_table rs) (key k ∷ q)
   pub unmade : (count : ℕ) → spot_is_made count spot ≡ false
 
-pub means : (spot : Spot) (rs : List Row) → are_few_simple 0 rs ≡ true → HoldsRows spot rs → Means spot rs
-means (spots.Table table) rs simple holds = absurd holds
-means (spots.Item b) rs simple holds = go (out-Item b.now) refl holds
+pub means : (spot : Spot) (rs : List Row) → HoldsRows spot rs → Means spot rs
+means (spots.Table table) rs holds = absurd holds
+means (spots.Item b) rs holds = go (out-Item b.now) refl holds
   where
     go : (x : Item-F Item Child Table) → out-Item b.now ≡ x → ItemRows x rs → Means (spots.Item b) rs
     go (Item-F.Rows z) is holds =
         let item = shape b.now (Item-F.Rows z) is in
         rw holds (record {
           trie = λ own. rw item (search (rules, the_lemmas));
-          is_data = rw item (search (rules, the_lemmas));
           origins = λ at s k q. rw item (search (rules, the_lemmas));
           unmade = λ count. ap holds_tables is;
         })
     go (Item-F.Section z) is holds =
         let item = shape b.now (Item-F.Section z) is in
-        let few : rows_data z ≡ Data.table (members_of (map row_pair z)) = few_data z (rw holds at simple) in
         rw holds (record {
           trie = λ own. absurd (false≢true (sym own ∙ ap is_wrapper is));
-          is_data = rw (item, few) (search (rules, the_lemmas));
           origins = λ at s k q. rw item (search (rules, the_lemmas));
           unmade = λ count. ap holds_tables is;
         })
     go x is holds = absurd holds
-means (spots.Plain v) rs simple holds = go (raws.out-Raw v.value.now) refl holds
+means (spots.Plain v) rs holds = go (raws.out-Raw v.value.now) refl holds
   where
     go : (x : Raw-F raws.Raw Element Row code_rows.Rows) → raws.out-Raw v.value.now ≡ x → RawRows x rs
         → Means (spots.Plain v) rs
@@ -188,80 +106,64 @@ means (spots.Plain v) rs simple holds = go (raws.out-Raw v.value.now) refl holds
         ap raw_of (sym (raws.roll-out-Raw v.value.now) ∙ ap raws.roll-Raw is) ∙ made ∙ ap plain_table (sym holds) in
         record {
           trie = λ own. ap (λ v. leaf (finished v)) seen;
-          is_data = ap finished seen;
           origins = λ at s k q. ap (λ v. value_origins s at v (key k ∷ q)) seen;
           unmade = λ count. refl;
         }
     go x is holds = absurd holds
 
--- the keys of simple rows differ, and their data is that of a table
+-- the data of simple rows are those of a table
 module _ (rs : List Row) (simple : are_few_simple 0 rs ≡ true) where
-  pub rows_simple : are_simple 0 rs ≡ true
-  rows_simple = (and_parts _ _ simple).1
-
-  pub rows_differ : are_distinct (map key_of rs) ≡ true
-  rows_differ = keys_differ 0 rs rows_simple
-
   pub key_found : (n : ℕ) (r : Row) → slice_get rs n ≡ Some r
       → data_at (rows_data rs) (key_of r) ≡ Some (plain_data (out-Row r).value)
-  key_found n r read = rw (few_data rs simple) (row_data rs n r rows_differ read)
+  key_found n r read =
+      rw (
+        ← (section_table_data 0 rs simple),
+        data_at_found (section_table 0 rs) (key_of r) (child_of 0 r) (section_at rs simple 0 n r read),
+        section_row_data 0 r (plain_read rs simple n r read),
+      ) refl
 
   pub key_absent : (k : List ℕ) → is_among (map key_of rs) k ≡ false → data_at (rows_data rs) k ≡ None
-  key_absent k absent = rw (few_data rs simple) (no_data rs k absent)
+  key_absent k absent =
+      rw (← (section_table_data 0 rs simple))
+      (data_at_absent (section_table 0 rs) k (rw (entries_are 0 rs) (no_entry 0 rs k absent)))
 
   pub rows_entries : entries_in (rows_data rs) ≡ map row_pair rs
   rows_entries = ap entries_in (few_data rs simple) ∙ paired-members (map row_pair rs)
 
   pub entries_differ : IsTrue (are_distinct (pair_keys (entries_in (rows_data rs))))
-  entries_differ = rw (rows_entries, row_keys rs) rows_differ
-
--- the row at a position is plain
-pub plain_at : (rs : List Row) → are_few_simple 0 rs ≡ true → (n : ℕ) (r : Row) → n < length rs → r ≡ get_or rs n r
-    → is_plain (out-Row r).value 0 ≡ true
-plain_at rs simple n r within read = row_at rs n r within read (rows_simple rs simple)
+  entries_differ = rw (rows_entries, row_keys rs) (rows_differ rs simple)
 
 -- the data of the node of a row
 pub row_node_data : (from node : Node) (r : Row) → IsPlainRow from r node
     → node_data node ≡ plain_data (out-Row r).value
 row_node_data from node r is = ap spot_data is.spot ∙ ap plain_data is.value
 
--- where a node stands that headers did not make, they made nothing
-path_unmade : (from : Node) (tree : Tree) (p : Path) → StandsAt tree p from
-    → spot_is_made from.count from.spot ≡ false → (sections : List Section) → IsResolved sections tree
-    → grammar.is_made (located sections) p ≡ false
-path_unmade from tree [] stands unmade sections resolved =
-    absurd (false≢true (sym unmade ∙ (root_at tree from [] stands refl).0.made))
-path_unmade from tree (s ∷ p) stands unmade sections resolved =
-    made_in_trie sections (tree_trie tree) resolved.stands (s ∷ p) refl
-    ∙ false_from_ne_true _ (λ made. false≢true (sym unmade ∙ (table_at tree from (s ∷ p) stands made).0.made))
-
 -- What a node keeps of the keys that lead to a row of an inline table, below which nothing is made.
-module _ (from node : Node) (k : List ℕ) (unmade : spot_is_made from.count from.spot ≡ false)
+module _ (from node : Node) (k : List ℕ) (r : Row) (unmade : spot_is_made from.count from.spot ≡ false)
     (none : wraps_table from.spot ≡ false → below (key k) (spot_trie from.spot) ≡ nothing)
-    (trail : node.trail ≡ from.trail) (tree : Tree) (p : Path) (stands : StandsAt tree p from) where
-  not_there : trie_at (p ++ key k ∷ []) (tree_trie tree) ≡ nothing
-  not_there = elim stands.there [
-    | inl nothing_there ↦ at_more p (key k) (tree_trie tree) ∙ ap (below (key k)) nothing_there
-    | inr there ↦ at_more p (key k) (tree_trie tree) ∙ ap (below (key k)) (sym there.0) ∙ none there.1
-  ]
-
-  row_keeps : CountsOn from node.count → KeepsKeys tree (p ++ key k ∷ []) node
-  row_keeps counts = (
-    count_keeps from node k counts tree p stands,
-    λ sections resolved made. absurd (false≢true (sym (ap (λ t. stands_made (standing t)) not_there)
-        ∙ sym (made_in_trie sections (tree_trie tree) resolved.stands (p ++ key k ∷ []) (no_root p (key k))) ∙ made)),
-    rows_on from node (key k) (λ m first is. trail) tree p stands (λ sections resolved l is made.
-        absurd (false≢true (sym (path_unmade from tree p stands unmade sections resolved) ∙ made))),
+    (is : IsPlainRow from r node) (tree : Tree) (p : Path) (stands : StandsAt tree p from) where
+  row_keeps : KeepsKeys tree (p ++ key k ∷ []) node
+  row_keeps = (
+    count_keeps from node k is.count tree p stands,
+    λ sections resolved made. absurd (false≢true (sym (ap (spot_is_made 1) is.spot)
+        ∙ made_below sections tree resolved p k node (further from node (key k) (λ own. inl (none own)) tree p stands)
+        made)),
+    rows_on from node (key k) (λ m first at. is.trail) tree p stands (λ sections resolved l at made.
+        absurd (false≢true (sym unmade ∙ (made_at sections tree from p resolved stands made).0.made))),
   )
 
--- the node of a row of an inline table stands at its key
-module _ (from node : Node) (rs : List Row) (holds : HoldsRows from.spot rs) (simple : are_few_simple 0 rs ≡ true)
-    (n : ℕ) (r : Row) (read : slice_get rs n ≡ Some r) (is : IsPlainRow from r node) where
+-- the node of a row of an inline table stands at its key, and so do its data
+module _ (from node : Node) (rs : List Row) (here : node_data from ≡ rows_data rs) (holds : HoldsRows from.spot rs)
+    (simple : are_few_simple 0 rs ≡ true) (n : ℕ) (r : Row) (read : slice_get rs n ≡ Some r)
+    (is : IsPlainRow from r node) where
+  row_data : data_at (node_data from) (key_of r) ≡ Some (node_data node)
+  row_data = rw (here, row_node_data from node r is) (key_found rs simple n r read)
+
   row_comes : (s : ℕ) → ComesFrom (λ q. node_origins s from (key (key_of r) ∷ q)) node
   row_comes s =
       comes_alike (λ q. rw (
-        (means from.spot rs simple holds).origins from.start s (key_of r) q,
-        own_origins s rs n r q (rows_differ rs simple) read,
+        (means from.spot rs holds).origins from.start s (key_of r) q,
+        own_origins s rs n r q simple read,
         ← (is.start),
         ← (is.value),
       ) refl)
@@ -269,28 +171,16 @@ module _ (from node : Node) (rs : List Row) (holds : HoldsRows from.spot rs) (si
 
   pub row_stands : StandsOn from (key (key_of r)) node
   row_stands tree p stands =
-      let means = means from.spot rs simple holds in
+      let means = means from.spot rs holds in
       let unmade = means.unmade from.count in
       let none : wraps_table from.spot ≡ false → below (key (key_of r)) (spot_trie from.spot) ≡ nothing =
       λ own. ap (below (key (key_of r))) (means.trie own) in
-      stands_on from node (key (key_of r)) is.tree
-      (rw (means.is_data, row_node_data from node r is) (key_found rs simple n r read)) (λ own. inl (none own))
-      row_comes tree p stands is.nested
+      stands_on from node (key (key_of r)) is.tree row_data (λ own. inl (none own)) row_comes tree p stands is.nested
       (rw (around_key p (key_of r)) (keeps_below from node (rw (is.outer, unmade) refl) tree p stands))
-      (row_keeps from node (key_of r) unmade none is.trail tree p stands is.count)
+      (row_keeps from node (key_of r) r unmade none is tree p stands)
 
--- the row that is found at a key of such rows
-module _ (rs : List Row) (simple : are_few_simple 0 rs ≡ true) (k : List ℕ) (r : Row) (found : IsRowAt rs k r) where
-  pub found_plain : is_plain (out-Row r).value 0 ≡ true
-  found_plain =
-      plain_at rs simple found.0 r (slice_get_within _ _ _ found.1) (sym (get_or_from_slice_get rs found.0 r r found.1))
-
-  pub found_row : (from node : Node) → node_data from ≡ rows_data rs → HoldsRows from.spot rs → IsPlainRow from r node
-      → GivenAt from k node
-  found_row from node here holds is = rw (← (found.2)) (record {
-    «data» = rw (here, row_node_data from node r is) (key_found rs simple found.0 r found.1);
-    stands = row_stands from node rs holds simple found.0 r found.1 is;
-  })
+  pub row_given : (k : List ℕ) → key_of r ≡ k → GivenAt from k node
+  row_given k same = rw (← same) (record { «data» = row_data; stands = row_stands })
 
 -- An iterator gives an entry of its table, and goes on to the next.
 abbrev pub GivesNext : Entries → Bor (List ℕ) × Node → Entries → Type 0
@@ -329,15 +219,9 @@ module _ (before : Entries) (rs : List Row) (here : node_data before.table ≡ r
   no_row_left past = none_left before (rw entries_seen (omega (arith, length-map rs row_pair, past)))
 
   -- the row at its place comes first of what is left, and the iterator goes on
-  pub gives_row : (r : Row) (k : Bor (List ℕ)) (node : Node) → before.at < length rs → r ≡ get_or rs before.at r
-      → k.now ≡ key_of r → (is_plain (out-Row r).value 0 ≡ true → node_data node ≡ plain_data (out-Row r).value)
-      → (slice_get rs before.at ≡ Some r → AtKey before.table (key_of r) node)
+  pub gives_row : (r : Row) (k : Bor (List ℕ)) (node : Node) → slice_get rs before.at ≡ Some r → k.now ≡ key_of r
+      → node_data node ≡ plain_data (out-Row r).value → AtKey before.table (key_of r) node
       → GivesNext before (k, node) (record { table = before.table; at = before.at + 1 })
-  gives_row r k node within read same is stands =
-      let there = slice_get_read _ _ _ _ refl within read in
-      gives_next before (k, node) (rw (
-        entries_seen,
-        read_mapped row_pair rs before.at r there,
-        same,
-        is (plain_at rs simple before.at r within read),
-      ) refl) (rw same (stands there))
+  gives_row r k node there same is stands =
+      gives_next before (k, node) (rw (entries_seen, read_mapped row_pair rs before.at r there, same, is) refl)
+      (rw same stands)

@@ -1,5 +1,5 @@
 -- What rows made, as the tree has it and as the section list foretells it.
-use Rattle.std.proofs.Common.{◌≡◌, ℕ, Bool, true, false, List, [], ◌∷◌, Option, Some, None, refl, ap, sym, ◌∙◌}
+use Rattle.std.proofs.Common.{arith, ◌≡◌, ℕ, Bool, true, false, List, [], ◌∷◌, Option, Some, None, refl, ap, sym, ◌∙◌}
 use Rattle.std.specs.Prelude.{◌||◌, ◌&&◌, IfSome}
 use Rattle.std.specs.List.{list_any, list_all}
 use Rattle.std.proofs.lemmas.Bool.{false≢true, or_parts}
@@ -18,7 +18,7 @@ use Rattle.basic_toml_tree.specs.Origin.{is_made, spot_name, spot_is_borrowed}
 use Rattle.basic_toml_grow.specs.Origins.{Origin}
 use Rattle.basic_toml_grow.specs.Ways.{sections_origins}
 use Rattle.basic_toml_tree.specs.Stands.{spot_origin, IsNodeAt}
-use Rattle.basic_toml_tree.proofs.Origins.RowsAreNodes.{Same, of_node, of_origin, sections_same}
+use Rattle.basic_toml_tree.proofs.Origins.RowsAreNodes.{Same, sections_same}
 
 -- the list's sections, where they stand
 pub located_any : (f : Section → Bool) (before ss : List Section)
@@ -65,16 +65,7 @@ told_by : (node : Node) (s : ℕ) (m : Option grammar.Node) (o : Option Origin) 
     → IfSome o (λ o. o.made ≡ false → o ≡ spot_origin node.count node.spot node.start s)
     → IfSome m (RowTold node)
 told_by node s None o same own = tt
-told_by node s (Some m) None same own = absurd (cc)
-told_by node s (Some m) (Some o) same own =
-    let both : of_node m ≡ of_origin o = cc in
-    let told = sym (ap of_origin (own (sym (ap (λ t. t.made) both)))) ∙ sym both in
-    record {
-      made = ap (λ t. t.made) told;
-      name = ap (λ t. t.name) told;
-      start = ap (λ t. t.start) told;
-      slice = ap (λ t. t.slice) told;
-    }
+told_by node s (Some m) o same own = grind arith
 
 pub row_told : (sections : List Section) (p : Path) (node : Node) → IsNodeAt sections p node
     → grammar.is_made (located sections) p ≡ false → IfSome (grammar.node_at sections p) (RowTold node)

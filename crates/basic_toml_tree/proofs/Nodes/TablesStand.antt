@@ -1,7 +1,7 @@
 -- One of the tables of an array of tables stands at its number, whether they have entries or stand as they were read.
 use Rattle.std.proofs.Common.{◌≡◌, ℕ, zero, suc, ◌+◌, true, false, List, [], ◌∷◌, ◌++◌, Some, ap, sym}
 use Rattle.std.proofs.Common.{refl, arith, map, Vec, Box, Global, inr}
-use Rattle.std.specs.Prelude.{slice_get, nat_eq}
+use Rattle.std.specs.Prelude.{slice_get}
 use Rattle.std.specs.Borrow.{Bor}
 use Rattle.std.proofs.lemmas.List.{map-append}
 use Rattle.basic_toml_grammar.specs.Steps.{number, Path}
@@ -27,19 +27,15 @@ use Rattle.basic_toml_tree.specs.declared.node.Node.{Node}
 use Rattle.basic_toml_tree.specs.declared.spot.HeaderTable.{HeaderTable}
 use Rattle.basic_toml_tree.specs.declared.spot.Spot.TheVariants as spots
 use Rattle.basic_toml_tree.proofs.SectionData.{section_table_data}
-use Rattle.basic_toml_tree.proofs.Nodes.NodesCome.{comes_alike, table_node_comes}
+use Rattle.basic_toml_tree.proofs.Nodes.NodesCome.{comes_alike, table_comes}
 use Rattle.basic_toml_tree.proofs.Nodes.NodesInOrder.{sections_elements, tables_elements, read_mapped}
 use Rattle.basic_toml_tree.proofs.Nodes.NodesStand.{tells_table, beside_stands}
 
 find_number : (k n m : ℕ) (ts : List Trie) (u : Trie) → m ≡ k + n → slice_get ts n ≡ Some u
     → find (number m) (by_numbers k ts) ≡ u
 find_number k n m [] u is found = absurd (cc)
-find_number k zero m (t ∷ ts) u is found =
-    let same : nat_eq k m ≡ true = grind (arith, is) in
-    rw same (cc)
-find_number k (suc n) m (t ∷ ts) u is found =
-    let other : nat_eq k m ≡ false = grind (arith, is) in
-    rw other (find_number (suc k) n m ts u (omega (arith, is)) found)
+find_number k zero m (t ∷ ts) u is found = grind arith
+find_number k (suc n) m (t ∷ ts) u is found = grind (arith, find_number (suc k) n m ts u)
 
 -- A table is that of an array of tables at a number: by its data, its trie and its origins.
 pub record TableAmong (i : Item) (n : ℕ) (t : Table) : Type 0 where
@@ -104,7 +100,7 @@ table_stands from node n b t at i is among beside start =
     rw (at, is, beside.spot) (sym among.is_trie) in (
       read,
       beside_stands from node (spots.Table t) n beside (rw (at, is) among.tables) read
-          (λ own. inr (there, ap wraps_table beside.spot)) (λ counted s. comes_alike
+          (λ own. inr (there, ap wraps_table beside.spot)) (λ counted s. rw (beside.spot, start) (comes_alike
           (λ q. rw (at, is) (among.origins from.start s q))
-          (table_node_comes t node from.start s beside.spot start counted)),
+          (table_comes (table_of t) t node.count from.start s refl counted))),
     )

@@ -1,9 +1,11 @@
-use Rattle.std.proofs.Common.{ap, sym, ◌∙◌, refl}
+use Rattle.std.proofs.Common.{◌≡◌, ap, sym, ◌∙◌, refl, arith, false}
 use Rattle.std.specs.Str.{bytes_eq}
-use Rattle.std.proofs.lemmas.List.{take_all}
+use Rattle.std.proofs.lemmas.List.{map-append}
 use Rattle.std.proofs.lemmas.Slice.Eq.{bytes_eq-Decides}
 use Rattle.std.proofs.lemmas.Option.{slice_get_read}
-use Rattle.basic_toml_tree.proofs.Nodes.RowNodes.{none_passed}
+use Rattle.std.proofs.lemmas.Grind.{common_steps}
+use Rattle.basic_toml_index.proofs.DistinctKeys.{bytes_eq_other, is_among-push}
+use Rattle.basic_toml_plain.specs.Plain.{key_of}
 use Rattle.basic_toml_tree.proofs.node.row_at.Goals as goal
 
 pub returns-then-eq : goal.returns-then-eq
@@ -16,10 +18,6 @@ returns-then-eq c =
 
 pub loop-row-preserved : goal.loop-row-preserved
 loop-row-preserved c =
-    none_passed c.args.rows.now c.loop-row.row-index c.row-item.result c.args.key.now c.loop-row-test.true c.row-item.is
-    c.loop-row.invariant
-    (ap (λ k. bytes_eq k c.args.key.now) (sym c.as_str.ensures.value) ∙ sym c.eq.ensures ∙ c.if-eq.false)
-
-pub returns : goal.returns
-returns c =
-    rw (take_all c.loop-row.row-index c.args.rows.now c.loop-row-test.false) at c.loop-row.invariant
+    let other : bytes_eq (key_of c.row-item.result) c.args.key.now ≡ false =
+    ap (λ k. bytes_eq k c.args.key.now) (sym c.as_str.ensures.value) ∙ sym c.eq.ensures ∙ c.if-eq.false in
+    grind (arith, common_steps, map-append key_of, is_among-push, bytes_eq_other c.args.key.now _ other)

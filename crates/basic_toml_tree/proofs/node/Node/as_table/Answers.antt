@@ -1,19 +1,18 @@
-use Rattle.std.proofs.Common.{◌≡◌, ap, sym, ◌∙◌, refl, rules, true}
+use Rattle.std.proofs.Common.{◌≡◌, ap, sym, ◌∙◌, rules, true}
 use Rattle.basic_toml_read.specs.declared.section.Raw as raws
 use Rattle.basic_toml_plain.specs.Plain.{is_plain, are_few_simple}
 use Rattle.basic_toml_plain.proofs.PlainValues.{table_within}
 use Rattle.basic_toml_tree.specs.declared.spot.HeaderTable.TheVariants as tables
 use Rattle.basic_toml_tree.specs.declared.spot.Spot.TheVariants as spots
 use Rattle.basic_toml_tree.proofs.SectionData.{section_rows, section_table_data}
-use Rattle.basic_toml_tree.proofs.Nodes.RowNodes.{inline_holds}
+use Rattle.basic_toml_tree.specs.Stands.{HoldsRows}
 use Rattle.basic_toml_tree.proofs.node.Node.as_table.Goals as goal
 
 pub returns-in-Inline-value-clause-fields : goal.returns-in-Inline-value-clause-fields
 returns-in-Inline-value-clause-fields c =
     let rows = c.in-Inline-value.rows in
-    let holds = inline_holds c.args.self.spot c.in-Plain.plain rows c.as_slice.result.now c.in-Plain.is
-    c.in-Inline-value.is
-    c.as_slice.ensures.value in
+    let holds : HoldsRows c.args.self.spot c.as_slice.result.now =
+    rw (c.in-Plain.is, c.in-Inline-value.is, c.as_slice.ensures.value) (search (rules, raws.the_lemmas)) in
     let plain : is_plain (raws.Inline c.in-Inline-value.rows) 0 ≡ true =
     ap (λ v. is_plain v 0) (sym c.in-Inline-value.is) ∙ c.in-Plain.plain.plain in
     (holds, ap (are_few_simple 0) c.as_slice.ensures.value ∙ table_within rows 0 plain)
@@ -23,11 +22,8 @@ returns-in-Section-clause-data c =
     rw (c.in-Item.is, c.in-Section.is, c.rows-in-Section.ensures.rows)
     (section_rows c.in-Section.table c.rows-in-Section.ensures.plain)
 
-pub returns-in-Table-Section : goal.returns-in-Table-Section
-returns-in-Table-Section c =
+pub returns-in-Table-Section-clause-data : goal.returns-in-Table-Section-clause-data
+returns-in-Table-Section-clause-data c =
     let t = c.in-Table-Section.table in
     let here : c.args.self.spot ≡ spots.Table (tables.Section c.in-Table-Section.table) = search rules in
-    record {
-      «data» = rw here (section_table_data t.section t.rows.now t.simple);
-      fields = (rw here refl, t.simple);
-    }
+    rw here (section_table_data t.section t.rows.now t.simple)

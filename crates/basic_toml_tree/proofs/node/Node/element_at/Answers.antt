@@ -5,22 +5,23 @@ use Rattle.std.proofs.lemmas.List.{length-map}
 use Rattle.std.proofs.lemmas.Grind.{common_steps}
 use Rattle.basic_toml_grammar.specs.Mentions.{finished}
 use Rattle.basic_toml_read.proofs.ViewsSeen.{array_of}
-use Rattle.basic_toml_plain.specs.Plain.{is_plain, are_plain, plain_data}
+use Rattle.basic_toml_read.specs.SectionView.{raw_of}
+use Rattle.basic_toml_grow.proofs.PlainArrays.{plain_trie}
+use Rattle.basic_toml_plain.specs.Plain.{is_plain, are_plain}
 use Rattle.basic_toml_plain.specs.PlainTables.{SectionTable, tables_in}
 use Rattle.basic_toml_plain.proofs.PlainValues.{array_within}
-use Rattle.basic_toml_grow.specs.declared.item.Item.{Array, Plain, Rows, Sections, Tables}
+use Rattle.basic_toml_grow.specs.declared.item.Item.{the_lemmas, Array, Plain, Rows, Sections, Tables}
 use Rattle.basic_toml_tree.specs.Data.{data_of}
 use Rattle.basic_toml_tree.specs.Nodes.{node_data, spot_data, elements_in}
 use Rattle.basic_toml_tree.proofs.Nodes.NodesInOrder.{array_elements, sections_elements, tables_elements}
 use Rattle.basic_toml_tree.proofs.Nodes.NodesInOrder.{front_read, last_read}
 use Rattle.basic_toml_tree.specs.declared.spot.HeaderTable.TheVariants.{Entries}
 use Rattle.basic_toml_tree.specs.declared.spot.Spot.TheVariants as spots
-use Rattle.basic_toml_tree.proofs.Nodes.NodesStand.{literal_stands, plain_stand, value_stands}
+use Rattle.basic_toml_tree.proofs.Nodes.NodesStand.{literal_stands, plain_given}
 use Rattle.basic_toml_tree.proofs.Nodes.TablesStand.{section_among, table_among, table_stands}
 use Rattle.basic_toml_tree.proofs.ItemData.{plain_item, rows_item}
 use Rattle.basic_toml_tree.proofs.InlineTables.{raw_no_elements, rows_no_elements}
 use Rattle.basic_toml_tree.proofs.node.Node.element_at.Goals as goal
-use Rattle.basic_toml_tree.proofs.Nodes.PlainNodes.{plain_given}
 
 pub returns-in-Some : goal.returns-in-Some
 returns-in-Some c =
@@ -34,18 +35,16 @@ returns-in-Some c =
 pub returns-in-None-clause-data : goal.returns-in-None-clause-data
 returns-in-None-clause-data c =
     let here : node_data c.args.self ≡ data_of (Array c.in-Item-Array.children) = search (rules) in
-    let long = simp length-map at (ap (λ d. length (elements_in d)) here
-    ∙ ap length (array_elements c.in-Item-Array.children)) in
-    omega (arith, c.in-None.ensures.lookup.3, long, ap length c.deref.ensures.value)
+    rw (here, array_elements c.in-Item-Array.children) (simp length-map
+    (omega (arith, c.in-None.ensures.lookup.3, ap length c.deref.ensures.value)))
 
 -- tables
 pub returns-else-at-earlier-clause-data : goal.returns-else-at-earlier-clause-data
 returns-else-at-earlier-clause-data c =
     let whole = c.as_slice-earlier.ensures.value ∙ ap (λ ts. ts.0.items) c.deref-in-Item-Tables.ensures in
     let here : node_data c.args.self ≡ data_of (Tables c.in-Item-Tables.tables) = search (rules) in
-    let long = simp (length-append, length-map) at (ap (λ d. length (elements_in d)) here
-    ∙ ap length (tables_elements c.in-Item-Tables.tables)) in
-    omega (arith, c.in-None-get.ensures.lookup.3, long, ap length whole, c.if-at-earlier.false)
+    rw (here, tables_elements c.in-Item-Tables.tables) (simp (length-append, length-map)
+    (omega (arith, c.in-None-get.ensures.lookup.3, ap length whole, c.if-at-earlier.false)))
 
 pub returns-in-Some-get : goal.returns-in-Some-get
 returns-in-Some-get c =
@@ -91,10 +90,9 @@ returns-in-Some-get-2 c =
 pub returns-in-None-get-2-clause-data : goal.returns-in-None-get-2-clause-data
 returns-in-None-get-2-clause-data c =
     let here : node_data c.args.self ≡ data_of (Sections c.in-Item-Sections.tables) = search (rules) in
-    let long = simp length-map at (ap (λ d. length (elements_in d)) here
-    ∙ ap length (sections_elements c.in-Item-Sections.tables)) in
     let whole = ap (λ ts. length (tables_in ts)) c.deref-in-Item-Sections-2.ensures in
-    omega (arith, c.in-None-get-2.ensures.table, long, whole)
+    rw (here, sections_elements c.in-Item-Sections.tables) (simp length-map
+    (omega (arith, c.in-None-get-2.ensures.table, whole)))
 
 -- plain elements
 pub returns-in-Item-Plain : goal.returns-in-Item-Plain
@@ -104,8 +102,9 @@ returns-in-Item-Plain c =
     let es = c.elements.result.now in
     let whole : c.in-Item-Plain.field-0.now ≡ Plain es = is ∙ ap Plain (sym c.elements.ensures.elements) in
     let given = plain_given c.args.self es c.args.at c.plain_element.result
-    (ap spot_data at ∙ ap data_of whole ∙ plain_item es) c.plain_element.ensures.none c.plain_element.ensures.some
-    (λ node placed read. plain_stand c.args.self node c.args.at c.in-Item-Plain.field-0 at es whole placed read) in
+    (ap spot_data at ∙ ap data_of whole ∙ plain_item es) (rw (at, whole) (plain_trie es))
+    (λ start s. rw (at, whole) (search (rules, the_lemmas))) c.plain_element.ensures.none
+    c.plain_element.ensures.some in
     record { within = c.plain_element.ensures.within; «data» = given.0; stands = given.1 }
 
 pub plain_element-requires-in-Array : goal.plain_element-requires-in-Array
@@ -116,12 +115,11 @@ plain_element-requires-in-Array c =
 pub returns-in-Array : goal.returns-in-Array
 returns-in-Array c =
     let es = c.in-Array.elements in
+    let seen = ap raw_of c.in-Array.is ∙ array_of es in
     let given_at = rw (c.as_slice.ensures.value) at c.plain_element-in-Array.ensures in
     let given = plain_given c.args.self es.items c.args.at c.plain_element-in-Array.result
-    (ap spot_data c.in-Plain.is ∙ ap plain_data c.in-Array.is ∙ ap finished (array_of es))
-    given_at.none given_at.some
-    (λ node placed read. value_stands c.args.self node c.args.at c.in-Plain.plain es c.in-Plain.is c.in-Array.is placed
-    read) in
+    (ap spot_data c.in-Plain.is ∙ ap finished seen) (rw (c.in-Plain.is, seen) refl)
+    (λ start s. rw (c.in-Plain.is, seen) refl) given_at.none given_at.some in
     record { within = c.plain_element-in-Array.ensures.within; «data» = given.0; stands = given.1 }
 
 -- what is no array has none
@@ -134,5 +132,4 @@ returns-in_default-value-clause-data c =
 pub returns-in-Item-Rows-clause-data : goal.returns-in-Item-Rows-clause-data
 returns-in-Item-Rows-clause-data c =
     let here : node_data c.args.self ≡ data_of (Rows c.in-Item-Rows._rows) = search (rules) in
-    let none = ap elements_in (here ∙ rows_item c.in-Item-Rows._rows) ∙ rows_no_elements c.in-Item-Rows._rows in
-    omega (arith, ap length none)
+    rw (here, rows_item c.in-Item-Rows._rows, rows_no_elements c.in-Item-Rows._rows) (omega arith)

@@ -1,11 +1,12 @@
-use Rattle.std.proofs.Common.{◌≡◌, ◌∙◌, rules}
+use Rattle.std.proofs.Common.{◌≡◌, ◌∙◌, rules, sym}
 use Rattle.basic_toml_tree.specs.Data.{table_data}
 use Rattle.basic_toml_tree.specs.Nodes.{node_data}
 use Rattle.basic_toml_tree.specs.Stands.{HoldsTable}
 use Rattle.basic_toml_tree.proofs.ItemData.{data_at_absent}
-use Rattle.basic_toml_tree.proofs.Nodes.EntryNodes.{entry_given}
-use Rattle.basic_toml_tree.proofs.Nodes.RowNodes.{found_plain, found_row, key_absent}
-use Rattle.basic_toml_tree.proofs.Nodes.SectionNodes.{section_found}
+use Rattle.basic_toml_tree.proofs.Nodes.EntryNodes.{entry_given, plain_read, section_at}
+use Rattle.basic_toml_grow.specs.Simple.{section_table}
+use Rattle.basic_toml_tree.proofs.SectionData.{section_table_data}
+use Rattle.basic_toml_tree.proofs.Nodes.RowNodes.{key_absent, row_given}
 use Rattle.basic_toml_tree.proofs.node.Node.get.Goals as goal
 
 pub returns-in_default-clause-data : goal.returns-in_default-clause-data
@@ -25,13 +26,15 @@ returns-in-Some c =
 pub plain_row-requires : goal.plain_row-requires
 plain_row-requires c =
     let table = rw c.in-Rows.is at c.in_ok-table.ensures in
-    found_plain c.in-Rows.rows.now table.fields.1 c.args.key.now c.in-Some-row_at.row.now c.in-Some-row_at.ensures
+    let found = c.in-Some-row_at.ensures in
+    plain_read c.in-Rows.rows.now table.fields.1 found.0 c.in-Some-row_at.row.now found.1
 
 pub returns-in-Some-row_at : goal.returns-in-Some-row_at
 returns-in-Some-row_at c =
     let table = rw c.in-Rows.is at c.in_ok-table.ensures in
-    found_row c.in-Rows.rows.now table.fields.1 c.args.key.now c.in-Some-row_at.row.now c.in-Some-row_at.ensures
-    c.args.self c.plain_row.result table.«data» table.fields.0 c.plain_row.ensures
+    let found = c.in-Some-row_at.ensures in
+    row_given c.args.self c.plain_row.result c.in-Rows.rows.now table.«data» table.fields.0 table.fields.1 found.0
+    c.in-Some-row_at.row.now found.1 c.plain_row.ensures c.args.key.now found.2
 
 pub returns-in-None-clause-data : goal.returns-in-None-clause-data
 returns-in-None-clause-data c =
@@ -42,15 +45,18 @@ returns-in-None-clause-data c =
 pub section_row-requires : goal.section_row-requires
 section_row-requires c =
     let table = rw c.in-Section.is at c.in_ok-table.ensures in
-    found_plain c.in-Section.rows.now table.fields.1 c.args.key.now c.in-Some-row_at-2.row.now
-    c.in-Some-row_at-2.ensures
+    let found = c.in-Some-row_at-2.ensures in
+    plain_read c.in-Section.rows.now table.fields.1 found.0 c.in-Some-row_at-2.row.now found.1
 
 pub returns-in-Some-row_at-2 : goal.returns-in-Some-row_at-2
 returns-in-Some-row_at-2 c =
     let table = rw c.in-Section.is at c.in_ok-table.ensures in
-    section_found c.args.self c.section_row.result c.in-Section.section c.in-Section.rows.now
-    table.fields.0 table.«data» table.fields.1 c.args.key.now c.in-Some-row_at-2.row.now c.in-Some-row_at-2.ensures
-    c.section_row.ensures
+    let found = c.in-Some-row_at-2.ensures in
+    let rows = c.in-Section.rows.now in
+    let s = c.in-Section.section in
+    rw (← (found.2)) (entry_given (section_table s rows) table.fields.0
+    (table.«data» ∙ sym (section_table_data s rows table.fields.1))
+    (section_at rows table.fields.1 s found.0 c.in-Some-row_at-2.row.now found.1) c.section_row.ensures)
 
 pub returns-in-None-row_at-clause-data : goal.returns-in-None-row_at-clause-data
 returns-in-None-row_at-clause-data c =

@@ -9,7 +9,7 @@ use Rattle.basic_toml_grow.proofs.SectionTables.{section_origins}
 use Rattle.basic_toml_tree.specs.declared.spot.HeaderTable.TheVariants.{Entries}
 use Rattle.basic_toml_tree.proofs.ItemData.{child_item}
 use Rattle.basic_toml_tree.proofs.Nodes.NodesCome.{child_table_comes, item_comes}
-use Rattle.basic_toml_tree.proofs.Nodes.SectionNodes.{child_is, no_wrapper, section_child_data, section_child_trie}
+use Rattle.basic_toml_tree.proofs.Nodes.EntryNodes.{child_is, no_wrapper, section_child_data, section_child_trie}
 use Rattle.basic_toml_tree.proofs.spot.Spot.of.Goals as goal
 
 pub returns-in-Table-clause-comes : goal.returns-in-Table-clause-comes
