@@ -18,7 +18,7 @@ use Rattle.basic_toml_grammar.proofs.Clash.PathsAgree.{append_none, offsets, pat
 use Rattle.basic_toml_grammar.proofs.Tries.SectionsInATrie.{marks_put}
 use Rattle.basic_toml_tree.specs.FirstStop.{Stands}
 use Rattle.basic_toml_grow.specs.Ways.{way, way_on, GrowsAlong, MarksTable, sections_origins}
-use Rattle.basic_toml_grow.proofs.Origins.HeadersPlaceOrigins.{way_fresh}
+use Rattle.basic_toml_grow.proofs.HeadersInATrie.{way_fresh}
 use Rattle.std.specs.Prelude.{IsSomeAnd}
 use Rattle.std.specs.List.{list_any}
 use Rattle.std.specs.Option.{option_or}

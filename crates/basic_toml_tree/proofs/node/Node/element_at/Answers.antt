@@ -6,7 +6,7 @@ use Rattle.std.proofs.lemmas.Grind.{common_steps}
 use Rattle.basic_toml_grammar.specs.Mentions.{finished}
 use Rattle.basic_toml_read.proofs.ViewsSeen.{array_of}
 use Rattle.basic_toml_read.specs.SectionView.{raw_of}
-use Rattle.basic_toml_grow.proofs.PlainArrays.{plain_trie}
+use Rattle.basic_toml_grow.proofs.ItemTries.{plain_trie}
 use Rattle.basic_toml_plain.specs.Plain.{is_plain, are_plain}
 use Rattle.basic_toml_plain.specs.PlainTables.{SectionTable, tables_in}
 use Rattle.basic_toml_plain.proofs.PlainValues.{array_within}
