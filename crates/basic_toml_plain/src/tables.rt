@@ -11,6 +11,19 @@ use std::alloc::{AllocError, Global};
 use std::marker::Model;
 use std::mem;
 
+// Makes room for so many rows more, and where there is none for three times as many as there are, so that rows are seldom
+// moved. What is not filled takes no page of memory.
+#[inline(always)]
+fn make_room(rows: &mut Vec<Row<'_>>, count: usize) -> Result<(), AllocError>
+    ensures { rows.new.items ≡ rows.old.items }
+{
+    let len = rows.len();
+    if rows.capacity() - len >= count {
+        return Ok(());
+    }
+    rows.try_reserve_exact(len.saturating_mul(3).max(count))
+}
+
 /// The tables of an array of tables, at least one, of each of which one header alone speaks. Each has at most 16 rows,
 /// with plain values and keys that differ. The rows of all stand in one vector, so that one more table asks for little
 /// memory.
@@ -83,6 +96,7 @@ impl<'de> PlainTables<'de> {
         let start = self.rows.len();
         let count = rows.len();
         self.earlier.try_reserve(1)?;
+        make_room(&mut self.rows, count)?;
         self.rows.append(rows)?;
         self.earlier.push_reserved(self.latest);
         self.latest = SectionRows {

@@ -8,7 +8,12 @@ pub invariant_of-self-2 : goal.invariant_of-self-2
 invariant_of-self-2 c =
     let ss = c.self.inside.earlier.items ++ c.self.inside.latest ∷ [] in
     let s : SectionRows = record { section = c.args.section; start = c.len-start.result; count = c.len-count.result } in
-    rw (c.in_ok-append.ensures.items, c.push_reserved.ensures.items, c.in_ok-try_reserve.ensures.items)
+    rw (
+      c.in_ok-append.ensures.items,
+      c.push_reserved.ensures.items,
+      c.in_ok-try_reserve.ensures.items,
+      c.in_ok-make_room.ensures,
+    )
     (are_parts_push 0 c.self.inside.rows.items c.args.rows.now.items ss s c.self.invariant
     (omega (arith, c.len-start.ensures)) (omega (arith, c.len-count.ensures)) c.requires)
 
@@ -20,6 +25,7 @@ returns-clause-tables c =
       c.in_ok-append.ensures.items,
       c.push_reserved.ensures.items,
       c.in_ok-try_reserve.ensures.items,
+      c.in_ok-make_room.ensures,
       parts_more 0 rows _ _ c.self.invariant,
       all_tables _ _ _ _ c.self.invariant c.self.view_is,
       drop_at rows _ c.len-start.result start,
