@@ -223,7 +223,7 @@ mutual
       missed _ _ (other_sign 91 s refl) ∙ found _ _ (sign_found s) ∙
       then_on _ (fields_found n rs (omega (arith, sign_length s, blanks_length next)))
 
-  elements_found : {text rest : Text} {es : Elements} (n : ℕ) → IsElements is_comment text es rest
+  pub elements_found : {text rest : Text} {es : Elements} (n : ℕ) → IsElements is_comment text es rest
       → 4 * length text + 2 ≤ n → elements_at n text ≡ Some (es, rest)
   elements_found zero es h = absurd (omega arith)
   elements_found (suc n) (close s) h = found _ _ (sign_found s)
@@ -244,7 +244,7 @@ mutual
   fields_found (suc n) (some rs) h = missed _ _ (sign_missed begins_key 125 (fields_heads is_comment rs) refl) ∙
       fields_on_found n rs (omega arith)
 
-  fields_on_found : {text rest : Text} {rs : Rows} (n : ℕ) → IsFieldsOn is_comment text rs rest
+  pub fields_on_found : {text rest : Text} {rs : Rows} (n : ℕ) → IsFieldsOn is_comment text rs rest
       → 4 * length text + 2 ≤ n → fields_on_at n text ≡ Some (rs, rest)
   fields_on_found zero rs h = absurd (omega arith)
   fields_on_found (suc n) (last_row r s) h =
@@ -355,7 +355,7 @@ rows_shorter (empty_line e rs) = omega (arith, line_shorter e, rows_shorter rs)
 rows_shorter (row_line {text = text} r e rs) =
     omega (arith, blanks_length text, row_shorter r, ends_shorter e, rows_shorter rs)
 
-sections_found : (n : ℕ) {text : Text} {sections : List Section} → IsSections is_comment text sections
+pub sections_found : (n : ℕ) {text : Text} {sections : List Section} → IsSections is_comment text sections
     → 4 * length text + 3 ≤ n → sections_at n text ≡ Some sections
 sections_found zero ss h = absurd (omega arith)
 sections_found (suc n) no_more h = refl
