@@ -1,26 +1,29 @@
 -- What stands at the front of a text does not depend on the bound on the steps, where it is large enough. So it is told
 -- by what stands at the front of shorter texts.
 use Rattle.std.proofs.Common.{◌≡◌, ℕ, suc, ◌+◌, ◌*◌, ◌<◌, ◌≤◌, true, false, [], ◌∷◌, length, refl, ap, ◌∙◌, arith, List}
-use Rattle.std.proofs.Common.{Option, Some}
+use Rattle.std.proofs.Common.{Option, Some, add-one, add-suc}
 use Rattle.std.specs.Option.{option_or}
 use Rattle.basic_toml_tokens.specs.Text.{Text, after_blanks}
-use Rattle.basic_toml_grammar.specs.Sections.{Key, Raw, Elements, Rows, Section, no_elements, element, no_rows, row}
+use Rattle.basic_toml_grammar.specs.Sections.{Key, Raw, Elements, Rows, no_elements, element, no_rows, row}
 use Rattle.basic_toml_grammar.specs.Entering.{and_then}
 use Rattle.basic_toml_grammar.specs.Grammar.{with_root}
-use Rattle.basic_toml_grammar.specs.Reader.{char_at, key_at, if_found, keys_at, Valued, Assigned, Headed, word_at}
+use Rattle.basic_toml_grammar.specs.Reader.{char_at, key_at, if_found, keys_at, Valued, Assigned, word_at}
 use Rattle.basic_toml_grammar.specs.Reader.{string_value_at, value_at, elements_at, fields_at, fields_on_at, row_at}
 use Rattle.basic_toml_grammar.specs.Reader.{line_end_at, rows_at, header_at, sections_at, section_list_of}
 use Rattle.basic_toml_read.specs.FrontOf.{keys_of, value_of, elements_of, fields_of, fields_on_of, row_of, rows_of}
 use Rattle.basic_toml_read.specs.FrontOf.{header_of, sections_of}
 use Rattle.basic_toml_grammar.proofs.Grammar.StringsAreRead.{sign_length}
 use Rattle.basic_toml_grammar.proofs.Grammar.ReaderIsSound.{sign_read, key_read, keys_read, value_read, row_read}
-use Rattle.basic_toml_grammar.proofs.Grammar.ReaderIsSound.{line_end_read, rows_read, header_read}
+use Rattle.basic_toml_grammar.proofs.Grammar.ReaderIsSound.{line_end_read, rows_read, header_read, elements_read}
+use Rattle.basic_toml_grammar.proofs.Grammar.ReaderIsSound.{fields_on_read, sections_read}
 use Rattle.basic_toml_grammar.proofs.Grammar.ReaderIsComplete.{key_shorter, keys_shorter, blanks_length}
 use Rattle.basic_toml_grammar.proofs.Grammar.ReaderIsComplete.{shorter_after_blanks, gap, gap_length, shorter_after_gap}
 use Rattle.basic_toml_grammar.proofs.Grammar.ReaderIsComplete.{value_shorter, row_shorter, ends_shorter, line_shorter}
 use Rattle.basic_toml_grammar.proofs.Grammar.ReaderIsComplete.{value_found, row_found, rows_found, header_found}
-use Rattle.basic_toml_grammar.proofs.Grammar.ReaderIsComplete.{header_shorter, rows_shorter}
+use Rattle.basic_toml_grammar.proofs.Grammar.ReaderIsComplete.{header_shorter, rows_shorter, elements_found}
+use Rattle.basic_toml_grammar.proofs.Grammar.ReaderIsComplete.{fields_on_found, sections_found}
 use Rattle.basic_toml_read.proofs.GoesOn.{then_alike, found_alike, same_found, then_from}
+use Rattle.basic_toml_read.specs.Lists.{sections_from}
 
 sign_shorter : (c : ℕ) (text : Text) (s : ℕ × Text) → char_at c text ≡ Some s → length text ≡ suc (length s.1)
 sign_shorter c text s e = sign_length (sign_read c text s e)
@@ -28,10 +31,6 @@ sign_shorter c text s e = sign_length (sign_read c text s e)
 sign_after_blanks : (c : ℕ) (text : Text) (s : ℕ × Text) → char_at c (after_blanks text) ≡ Some s
     → length s.1 < length text
 sign_after_blanks c text s e = shorter_after_blanks text (sign_read c (after_blanks text) s e)
-
--- two readings find the same in shorter texts
-abbrev SameBelow : {A : Type 0} → Text → (Text → Option A) → (Text → Option A) → Type 0
-SameBelow text f g = (t : Text) → length t < length text → f t ≡ g t
 
 -- what stands at the front, by what stands after it
 abbrev pub keys_by : (Text → Option (List Key × Text)) → Text → Option (List Key × Text)
@@ -54,127 +53,55 @@ abbrev pub after_row : (Text → Option (Rows × Text)) → Assigned → Option 
 after_row more r = and_then (line_end_at r.rest)
     (λ next. and_then (more next) (λ rows. Some (row r.keys r.offset r.value rows.0, rows.1)))
 
-abbrev pub elements_by : (Text → Option Valued) → (Text → Option (Elements × Text)) → Text → Option (Elements × Text)
-elements_by value more text =
-    if_found (char_at 93 text) (λ s. Some (no_elements, s.1)) (and_then (value text) (after_value more))
-
-abbrev pub fields_on_by : (Text → Option Assigned) → (Text → Option (Rows × Text)) → Text → Option (Rows × Text)
-fields_on_by row_there more text = and_then (row_there text) (after_field more)
-
-abbrev pub sections_by : (Text → Option Headed) → (Text → Option (Rows × Text)) → (Text → Option (List Section)) → Text
-    → Option (List Section)
-sections_by header rows more text =
-    and_then (header (after_blanks text)) (λ h. and_then (line_end_at h.rest) (λ next.
-    and_then (rows next) (λ rows. and_then (more rows.1) (λ sections.
-    Some (record { at = h.offset; header = h.keys; is_array = h.is_array; rows = rows.0 } ∷ sections)))))
-
--- a step of a reading that repeats
-keys_step : (n : ℕ) (more : Text → Option (List Key × Text)) (text : Text) → SameBelow text (keys_at n) more
-    → keys_at (suc n) text ≡ keys_by more text
+-- a step of keys
+keys_step : (n : ℕ) (more : Text → Option (List Key × Text)) (text : Text)
+    → ((t : Text) → length t < length text → keys_at n t ≡ more t) → keys_at (suc n) text ≡ keys_by more text
 keys_step n more text h =
     then_alike (key_at text) _ _ (λ key e. found_alike (char_at 46 (after_blanks key.1)) _ _ _ _
     (λ s f. then_from _ (h (after_blanks s.1)
     (omega (arith, key_shorter (key_read text key e), sign_after_blanks 46 key.1 s f, blanks_length s.1)))) (λ _. refl))
 
-elements_step : (n : ℕ) (value : Text → Option Valued) (more : Text → Option (Elements × Text)) (text : Text)
-    → value_at n text ≡ value text → SameBelow text (elements_at n) more
-    → elements_at (suc n) text ≡ elements_by value more text
-elements_step n value more text same h =
-    found_alike (char_at 93 text) _ _ _ _ (λ _ _. refl) (λ _.
-    then_alike (value_at n text) _ _ (λ v e. found_alike (char_at 44 (gap v.rest)) _ _ _ _
-    (λ s f. then_from _ (h (gap s.1)
-    (omega (
-      arith,
-      value_shorter (value_read n text v e),
-      shorter_after_gap v.rest (sign_read 44 (gap v.rest) s f),
-      gap_length s.1,
-    )))) (λ _. refl))
-    ∙ then_from _ same)
+-- two bounds that are large enough find the same
+abbrev Enough : {A : Type 0} → (ℕ → Text → Option A) → ℕ → Type 0
+Enough at k = (n m : ℕ) (text : Text) → 4 * length text + k ≤ n → 4 * length text + k ≤ m → at n text ≡ at m text
 
-fields_on_step : (n : ℕ) (row_there : Text → Option Assigned) (more : Text → Option (Rows × Text)) (text : Text)
-    → row_at n text ≡ row_there text → SameBelow text (fields_on_at n) more
-    → fields_on_at (suc n) text ≡ fields_on_by row_there more text
-fields_on_step n row_there more text same h =
-    then_alike (row_at n text) _ _ (λ v e. found_alike (char_at 44 (after_blanks v.rest)) _ _ _ _
-    (λ s f. then_from _ (h (after_blanks s.1)
-    (omega (arith, row_shorter (row_read n text v e), sign_after_blanks 44 v.rest s f, blanks_length s.1))))
-    (λ _. refl))
-    ∙ then_from _ same
-
-sections_step : (n : ℕ) (header : Text → Option Headed) (rows : Text → Option (Rows × Text))
-    (more : Text → Option (List Section)) (x : ℕ × ℕ) (text : Text)
-    → header_at (suc n) (after_blanks (x ∷ text)) ≡ header (after_blanks (x ∷ text))
-    → SameBelow (x ∷ text) (rows_at (suc n)) rows → SameBelow (x ∷ text) (sections_at n) more
-    → sections_at (suc n) (x ∷ text) ≡ sections_by header rows more (x ∷ text)
-sections_step n header rows more x text same h k =
-    then_alike (header_at (suc n) (after_blanks (x ∷ text))) _ _
-    (λ head e. then_alike (line_end_at head.rest) _ _ (λ next f.
-    let less : length next < length (x ∷ text) =
-    omega (
-      arith,
-      blanks_length (x ∷ text),
-      header_shorter (header_read (suc n) (after_blanks (x ∷ text)) head e),
-      ends_shorter (line_end_read head.rest next f),
-    ) in
-    then_alike (rows_at (suc n) next) _ _
-    (λ rs g. then_from _ (k rs.1 (omega (arith, rows_shorter (rows_read (suc n) next rs g)))))
-    ∙ then_from _ (h next less)))
-    ∙ then_from _ same
-
--- so two bounds that are large enough find the same
 keys_enough : (n m : ℕ) (text : Text) → length text < n → length text < m → keys_at n text ≡ keys_at m text
 keys_enough (suc n) (suc m) text h k =
     keys_step n (keys_at m) text (λ t l. keys_enough n m t (omega arith) (omega arith))
 keys_enough _ _ text h k = absurd (omega arith)
 
-value_enough : (n m : ℕ) (text : Text) → 4 * length text + 1 ≤ n → 4 * length text + 1 ≤ m
-    → value_at n text ≡ value_at m text
-value_enough n m text h k =
-    same_found _ _ (λ v e. value_found m (value_read n text v e) k) (λ v e. value_found n (value_read m text v e) h)
-
-row_enough : (n m : ℕ) (text : Text) → 4 * length text + 1 ≤ n → 4 * length text + 1 ≤ m
-    → row_at n text ≡ row_at m text
-row_enough n m text h k =
-    same_found _ _ (λ r e. row_found m (row_read n text r e) k) (λ r e. row_found n (row_read m text r e) h)
-
-rows_enough : (n m : ℕ) (text : Text) → 4 * length text + 3 ≤ n → 4 * length text + 3 ≤ m
-    → rows_at n text ≡ rows_at m text
-rows_enough n m text h k =
-    same_found _ _ (λ r e. rows_found m (rows_read n text r e) k) (λ r e. rows_found n (rows_read m text r e) h)
-
 header_enough : (n m : ℕ) (text : Text) → length text < n → length text < m → header_at n text ≡ header_at m text
 header_enough n m text h k =
     same_found _ _ (λ r e. header_found m (header_read n text r e) k) (λ r e. header_found n (header_read m text r e) h)
 
-elements_enough : (n m : ℕ) (text : Text) → 4 * length text + 2 ≤ n → 4 * length text + 2 ≤ m
-    → elements_at n text ≡ elements_at m text
-elements_enough (suc n) (suc m) text h k =
-    elements_step n (value_at m) (elements_at m) text (value_enough n m text (omega arith) (omega arith))
-    (λ t l. elements_enough n m t (omega arith) (omega arith))
-elements_enough _ _ text h k = absurd (omega arith)
+value_enough : Enough value_at 1
+value_enough n m text h k =
+    same_found _ _ (λ v e. value_found m (value_read n text v e) k) (λ v e. value_found n (value_read m text v e) h)
 
-fields_on_enough : (n m : ℕ) (text : Text) → 4 * length text + 2 ≤ n → 4 * length text + 2 ≤ m
-    → fields_on_at n text ≡ fields_on_at m text
-fields_on_enough (suc n) (suc m) text h k =
-    fields_on_step n (row_at m) (fields_on_at m) text (row_enough n m text (omega arith) (omega arith))
-    (λ t l. fields_on_enough n m t (omega arith) (omega arith))
-fields_on_enough _ _ text h k = absurd (omega arith)
+row_enough : Enough row_at 1
+row_enough n m text h k =
+    same_found _ _ (λ r e. row_found m (row_read n text r e) k) (λ r e. row_found n (row_read m text r e) h)
 
-fields_enough : (n m : ℕ) (text : Text) → 4 * length text + 3 ≤ n → 4 * length text + 3 ≤ m
-    → fields_at n text ≡ fields_at m text
+elements_enough : Enough elements_at 2
+elements_enough n m text h k = same_found _ _ (λ r e. elements_found m (elements_read n text r e) k)
+    (λ r e. elements_found n (elements_read m text r e) h)
+
+fields_on_enough : Enough fields_on_at 2
+fields_on_enough n m text h k = same_found _ _ (λ r e. fields_on_found m (fields_on_read n text r e) k)
+    (λ r e. fields_on_found n (fields_on_read m text r e) h)
+
+fields_enough : Enough fields_at 3
 fields_enough (suc n) (suc m) text h k =
     ap (if_found (char_at 125 text) _) (fields_on_enough n m text (omega arith) (omega arith))
 fields_enough _ _ text h k = absurd (omega arith)
 
-sections_enough : (n m : ℕ) (text : Text) → 4 * length text + 3 ≤ n → 4 * length text + 3 ≤ m
-    → sections_at n text ≡ sections_at m text
-sections_enough (suc n) (suc m) [] h k = refl
-sections_enough (suc n) (suc m) (x ∷ text) h k =
-    sections_step n (header_at (suc m)) (rows_at (suc m)) (sections_at m) x text
-    (header_enough (suc n) (suc m) (after_blanks (x ∷ text)) (omega (arith, blanks_length (x ∷ text)))
-    (omega (arith, blanks_length (x ∷ text)))) (λ t l. rows_enough (suc n) (suc m) t (omega arith) (omega arith))
-    (λ t l. sections_enough n m t (omega arith) (omega arith))
-sections_enough _ _ text h k = absurd (omega arith)
+rows_enough : Enough rows_at 3
+rows_enough n m text h k =
+    same_found _ _ (λ r e. rows_found m (rows_read n text r e) k) (λ r e. rows_found n (rows_read m text r e) h)
+
+sections_enough : Enough sections_at 3
+sections_enough n m text h k = same_found _ _ (λ r e. sections_found m (sections_read n text r e) k)
+    (λ r e. sections_found n (sections_read m text r e) h)
 
 -- and what stands at the front is told by itself
 pub keys_is : (text : Text) → keys_of text ≡ keys_by keys_of text
@@ -191,30 +118,36 @@ pub value_is : (text : Text)
     (option_or (word_at text) (string_value_at text)))
 unfolding value_of elements_of fields_of
 value_is text =
-    let more : 4 * length text + 1 ≡ suc (4 * length text) = omega arith in
-    rw more (found_alike (char_at 91 text) _ _ _ _ (λ s e. then_from _ (elements_enough _ _ (gap s.1)
+    rw add-one (found_alike (char_at 91 text) _ _ _ _ (λ s e. then_from _ (elements_enough _ _ (gap s.1)
     (omega (arith, sign_shorter 91 text s e, gap_length s.1)) (omega arith)))
     (λ _. found_alike (char_at 123 text) _ _ _ _ (λ s e. then_from _ (fields_enough _ _ (after_blanks s.1)
     (omega (arith, sign_shorter 123 text s e, blanks_length s.1)) (omega arith))) (λ _. refl)))
 
-pub elements_is : (text : Text) → elements_of text ≡ elements_by value_of elements_of text
+pub elements_is : (text : Text) → elements_of text
+    ≡ if_found (char_at 93 text) (λ s. Some (no_elements, s.1)) (and_then (value_of text) (after_value elements_of))
 unfolding elements_of value_of
 elements_is text =
-    let more : 4 * length text + 2 ≡ suc (4 * length text + 1) = omega arith in
-    rw more (elements_step (4 * length text + 1) value_of elements_of text refl
-    (λ t l. elements_enough _ _ t (omega arith) (omega arith)))
+    rw (add-suc (4 * length text) 1) (found_alike (char_at 93 text) _ _ _ _ (λ _ _. refl) (λ _.
+    then_alike (value_of text) _ _ (λ v e. found_alike (char_at 44 (gap v.rest)) _ _ _ _
+    (λ s f. then_from _ (elements_enough _ _ (gap s.1) (omega (
+      arith,
+      value_shorter (value_read _ text v e),
+      shorter_after_gap v.rest (sign_read 44 (gap v.rest) s f),
+      gap_length s.1,
+    )) (omega arith))) (λ _. refl))))
 
 pub fields_is : (text : Text)
     → fields_of text ≡ if_found (char_at 125 text) (λ s. Some (no_rows, s.1)) (fields_on_of text)
 unfolding fields_of fields_on_of
-fields_is text = let more : 4 * length text + 3 ≡ suc (4 * length text + 2) = omega arith in rw more refl
+fields_is text = rw (add-suc (4 * length text) 2) refl
 
-pub fields_on_is : (text : Text) → fields_on_of text ≡ fields_on_by row_of fields_on_of text
+pub fields_on_is : (text : Text) → fields_on_of text ≡ and_then (row_of text) (after_field fields_on_of)
 unfolding fields_on_of row_of
 fields_on_is text =
-    let more : 4 * length text + 2 ≡ suc (4 * length text + 1) = omega arith in
-    rw more (fields_on_step (4 * length text + 1) row_of fields_on_of text refl
-    (λ t l. fields_on_enough _ _ t (omega arith) (omega arith)))
+    rw (add-suc (4 * length text) 1) (then_alike (row_of text) _ _ (λ r e.
+    found_alike (char_at 44 (after_blanks r.rest)) _ _ _ _ (λ s f. then_from _ (fields_on_enough _ _ (after_blanks s.1)
+    (omega (arith, row_shorter (row_read _ text r e), sign_after_blanks 44 r.rest s f, blanks_length s.1))
+    (omega arith))) (λ _. refl)))
 
 pub row_is : (text : Text)
     → row_of text ≡ and_then (keys_of text) (λ keys. and_then (char_at 61 (after_blanks keys.1)) (λ s.
@@ -223,8 +156,7 @@ pub row_is : (text : Text)
 unfolding row_of keys_of value_of
 row_is text =
     let n = 4 * length text in
-    let more : 4 * length text + 1 ≡ suc (4 * length text) = omega arith in
-    rw more (then_alike (keys_at (suc n) text) _ _ (λ ks e. then_alike (char_at 61 (after_blanks ks.1)) _ _ (λ s f.
+    rw add-one (then_alike (keys_at (suc n) text) _ _ (λ ks e. then_alike (char_at 61 (after_blanks ks.1)) _ _ (λ s f.
     then_from _ (value_enough n _ (after_blanks s.1)
     (omega (arith, keys_shorter (keys_read (suc n) text ks e), sign_after_blanks 61 ks.1 s f, blanks_length s.1))
     (omega arith))))
@@ -238,8 +170,7 @@ unfolding rows_of row_of
 rows_is x text =
     let n = 4 * length (x ∷ text) + 2 in
     let front = after_blanks (x ∷ text) in
-    let more : 4 * length (x ∷ text) + 3 ≡ suc (4 * length (x ∷ text) + 2) = omega arith in
-    rw more (found_alike (char_at 91 front) _ _ _ _ (λ _ _. refl) (λ _. found_alike (line_end_at (x ∷ text)) _ _ _ _
+    rw (add-suc (4 * length (x ∷ text)) 2) (found_alike (char_at 91 front) _ _ _ _ (λ _ _. refl) (λ _. found_alike (line_end_at (x ∷ text)) _ _ _ _
     (λ next e. rows_enough n _ next (omega (arith, line_shorter (line_end_read (x ∷ text) next e))) (omega arith))
     (λ _. then_alike (row_at (suc n) front) _ _ (λ v e. then_alike (line_end_at v.rest) _ _
     (λ next f. then_from _ (rows_enough n _ next (omega (
@@ -267,16 +198,24 @@ header_is text =
     (omega (arith, sign_shorter 91 text s e, blanks_length s.1)) (omega arith))))
 
 pub sections_is : (x : ℕ × ℕ) (text : Text)
-    → sections_of (x ∷ text) ≡ sections_by header_of rows_of sections_of (x ∷ text)
+    → sections_of (x ∷ text) ≡ and_then (header_of (after_blanks (x ∷ text))) sections_from
 unfolding sections_of header_of rows_of
 sections_is x text =
     let n = 4 * length (x ∷ text) + 2 in
     let front = after_blanks (x ∷ text) in
-    let more : 4 * length (x ∷ text) + 3 ≡ suc (4 * length (x ∷ text) + 2) = omega arith in
-    rw more (sections_step n header_of rows_of sections_of x text
-    (header_enough (suc n) (suc (length front)) front (omega (arith, blanks_length (x ∷ text))) (omega arith))
-    (λ t l. rows_enough (suc n) (4 * length t + 3) t (omega arith) (omega arith))
-    (λ t l. sections_enough n (4 * length t + 3) t (omega arith) (omega arith)))
+    rw (add-suc (4 * length (x ∷ text)) 2) (then_alike (header_at (suc n) front) _ _ (λ head e.
+    then_alike (line_end_at head.rest) _ _ (λ next f.
+    let less : length next < length (x ∷ text) = omega (
+      arith,
+      blanks_length (x ∷ text),
+      header_shorter (header_read (suc n) front head e),
+      ends_shorter (line_end_read head.rest next f),
+    ) in
+    then_alike (rows_at (suc n) next) _ _ (λ rs g. then_from _ (sections_enough n _ rs.1
+    (omega (arith, rows_shorter (rows_read (suc n) next rs g))) (omega arith)))
+    ∙ then_from _ (rows_enough (suc n) _ next (omega arith) (omega arith))))
+    ∙ then_from _ (header_enough (suc n) (suc (length front)) front
+    (omega (arith, blanks_length (x ∷ text))) (omega arith)))
 
 pub list_is : (text : Text)
     → section_list_of text ≡ and_then (rows_of text)

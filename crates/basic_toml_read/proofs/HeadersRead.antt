@@ -11,13 +11,13 @@ use Rattle.basic_toml_grammar.specs.Grammar.{IsKeys}
 use Rattle.basic_toml_grammar.specs.DeepStops.{DeepKeys, DeepHeader, table, array_of_tables}
 use Rattle.basic_toml_grammar.specs.Holes.{Hole, HoleInKeys, HoleInHeader}
 use Rattle.basic_toml_grammar.specs.Reader as reader
-use Rattle.basic_toml_grammar.specs.Reader.{char_at, if_found}
+use Rattle.basic_toml_grammar.specs.Reader.{char_at}
 use Rattle.basic_toml_explain.specs.Stop.{StopsInside}
 use Rattle.basic_toml_explain.specs.declared.stop.Stop.{Stop}
 use Rattle.basic_toml_explain.specs.declared.stop.Why.TheVariants.{Newline}
 use Rattle.basic_toml_explain.specs.declared.stop.Why.TheVariants as why
 use Rattle.basic_toml_read.specs.Lists.{HeaderKeys, AreHeaderKeys}
-use Rattle.basic_toml_read.specs.StopsReached.{AtDeep, InHeaderHole, StopsAtKey, in_header}
+use Rattle.basic_toml_read.specs.StopsReached.{AtDeep, InHeaderHole, in_header}
 use Rattle.basic_toml_read.specs.AtPlace.{Leaves}
 use Rattle.basic_toml_read.specs.FrontOf.{keys_of, header_of}
 use Rattle.basic_toml_read.specs.Gathers.{ClosesAt}
@@ -29,28 +29,10 @@ use Rattle.basic_toml_grammar.proofs.Grammar.StringsAreRead.{then_some}
 use Rattle.basic_toml_grammar.proofs.Nesting.WithinTheLimit.{keys_within}
 use Rattle.basic_toml_read.proofs.StandsIn.{at_deep, key_stops_on, SameDeep, nothing_fits}
 use Rattle.basic_toml_read.proofs.EnoughSteps.{header_is}
-use Rattle.basic_toml_read.proofs.GoesOn.{found_from, then_from, misses_on, misses_then}
+use Rattle.basic_toml_read.proofs.GoesOn.{found_from, then_from, misses_on}
 use Rattle.basic_toml_read.proofs.LeftAfter.{sign_missing, sign_there}
 use Rattle.basic_toml_read.proofs.AfterKeys.{keys_there}
 use Rattle.basic_toml_read.proofs.KeysTold.{KeysStop}
-
--- what is known of a stop in the keys of a header, the first of which has level 2
-abbrev pub HeaderKeysStop : List ℕ → ℕ → Stop → Type 0
-HeaderKeysStop bytes at stop = record {
-  read : Misses stop.why (keys_of (text_at bytes at)) (λ keys. nesting_limit < length keys.0 + 1);
-  inside : StopsInside bytes stop;
-  deep : AtDeep (DeepKeys nesting_limit 2 (text_at bytes at)) stop.why stop.at;
-  hole : StopsAtKey (text_at bytes at) stop.why (text_at bytes stop.at);
-}
-
-pub header_keys_stop : (bytes : List ℕ) (at : ℕ) (stop : Stop) → KeysStop bytes at 2 stop → HeaderKeysStop bytes at stop
-header_keys_stop bytes at stop is = record {
-  read = misses_then stop.why (keys_of (text_at bytes at)) (keys_of (text_at bytes at)) _ _ (λ e. e)
-      (λ y e. (y, e, λ h. omega (arith, h))) is.read;
-  inside = is.inside;
-  deep = is.deep;
-  hole = is.hole;
-}
 
 -- the rest of a header after its first closing bracket, and after its keys
 abbrev pub ending : ℕ → Bool → List Key → Text → Option reader.Headed
@@ -123,7 +105,8 @@ HeaderStops bytes at stop = record {
 
 module _ {bytes : List ℕ} {at start : ℕ} {is_array : Bool} (b : Opened bytes at start is_array) where
   -- no keys
-  pub no_header_keys : (stop : Stop) → HeaderKeysStop bytes start stop → HeaderStops bytes at stop
+  pub no_header_keys : (stop : Stop) → KeysStop bytes start 2 (λ n. nesting_limit < n + 1) stop
+      → HeaderStops bytes at stop
   no_header_keys stop e = record {
     read = misses_on stop.why (keys_of (text_at bytes start)) (closing at is_array) _ _ b.is
         (λ keys h f high. let (close, close_is, g) = then_some (char_at 93 (after_blanks keys.1)) _ h f in

@@ -64,10 +64,10 @@ told_start bytes at first low b = record {
   holes = λ there d. d;
 }
 
--- what is known of a stop in keys
-abbrev pub KeysStop : List ℕ → ℕ → ℕ → Stop → Type 0
-KeysStop bytes at first stop = record {
-  read : Misses stop.why (keys_of (text_at bytes at)) (λ keys. nesting_limit < first + length keys.0 - 1);
+-- what is known of a stop in keys, where so many are too many
+abbrev pub KeysStop : List ℕ → ℕ → ℕ → (ℕ → Type 0) → Stop → Type 0
+KeysStop bytes at first TooMany stop = record {
+  read : Misses stop.why (keys_of (text_at bytes at)) (λ keys. TooMany (length keys.0));
   inside : StopsInside bytes stop;
   deep : AtDeep (DeepKeys nesting_limit first (text_at bytes at)) stop.why stop.at;
   hole : StopsAtKey (text_at bytes at) stop.why (text_at bytes stop.at);
@@ -87,13 +87,13 @@ some_keys text keys e =
 module _ {bytes : List ℕ} {at first offset level : ℕ} {front : List code_keys.Key}
     (s : KeysTold bytes at first offset level front) where
   -- no key
-  pub no_key : (stop : Stop) → ReadsKeyAt bytes offset (Err stop) → StopsInside bytes stop
-      → KeysStop bytes at first stop
+  pub no_key : (TooMany : ℕ → Type 0) (stop : Stop) → ReadsKeyAt bytes offset (Err stop) → StopsInside bytes stop
+      → KeysStop bytes at first TooMany stop
   unfolding after
-  no_key stop missed inside = go stop.why stop.at missed.0 missed.1 inside
+  no_key TooMany stop missed inside = go stop.why stop.at missed.0 missed.1 inside
     where
       go : (w : Why) (p : ℕ) → MissesKey w (text_at bytes offset) → (w ≡ why.Key → p ≡ offset)
-          → StopsInside bytes (record { at = p; why = w }) → KeysStop bytes at first (record { at = p; why = w })
+          → StopsInside bytes (record { at = p; why = w }) → KeysStop bytes at first TooMany (record { at = p; why = w })
       go Memory p m same inside = record { read = tt; inside = inside; deep = tt; hole = tt }
       go why.Key p m same inside = record {
         read = s.told ∙ after_from _ (keys_is (text_at bytes offset) ∙ then_from _ m);
@@ -104,21 +104,16 @@ module _ {bytes : List ℕ} {at first offset level : ℕ} {front : List code_key
       go _ p m same inside = absurd m
 
   -- a key above the limit
-  pub key_too_deep : (k : Keyed) → ReadsKeyAt bytes offset (Ok k) → nesting_limit < level
-      → KeysStop bytes at first (record { at = offset; why = Deep })
+  pub key_too_deep : (TooMany : ℕ → Type 0) → ((n : ℕ) → nesting_limit < first + n - 1 → TooMany n) → (k : Keyed)
+      → ReadsKeyAt bytes offset (Ok k) → nesting_limit < level
+      → KeysStop bytes at first TooMany (record { at = offset; why = Deep })
   unfolding after
-  key_too_deep k key h = record {
+  key_too_deep TooMany many k key h = record {
     read = λ x e.
         let (keys, keys_is, f) = then_some (keys_of (text_at bytes offset)) _ x (sym s.told ∙ e) in
         let there : map key_of front ++ keys.0 ≡ x.0 = cc in
-        omega (
-          arith,
-          s.level_is,
-          ap length there,
-          length-append (map key_of front) keys.0,
-          length-map front key_of,
-          some_keys (text_at bytes offset) keys keys_is,
-        );
+        let counted = simp (length-append, length-map) at (ap length there) in
+        many _ (omega (arith, s.level_is, counted, some_keys (text_at bytes offset) keys keys_is));
     inside = inr s.boundary;
     deep = s.deep.leads offset (this_key h (key_read (text_at bytes offset) _ key.0));
     hole = tt;

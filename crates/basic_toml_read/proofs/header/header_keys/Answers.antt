@@ -1,4 +1,4 @@
-use Rattle.std.proofs.Common.{[], ◌∷◌, length, length-append, ap, arith, ◌∙◌, Err}
+use Rattle.std.proofs.Common.{◌+◌, ◌<◌, [], ◌∷◌, length, length-append, ap, arith, ◌∙◌, Err}
 use Rattle.std.proofs.lemmas.List.{map-append}
 use Rattle.basic_toml_tokens.specs.Text.{text_at}
 use Rattle.basic_toml_read.specs.declared.section.Key.{Key}
@@ -6,7 +6,7 @@ use Rattle.basic_toml_read.specs.SectionView.{key_of}
 use Rattle.basic_toml_read.proofs.StandsIn.{is_err}
 use Rattle.basic_toml_read.proofs.KeysTold.{key_too_deep, no_key, told_start, told_more, told_last}
 use Rattle.basic_toml_read.proofs.LeftAfter.{sign_missing}
-use Rattle.basic_toml_read.proofs.HeadersRead.{header_keys_stop}
+use Rattle.basic_toml_value.specs.Nesting.{nesting_limit}
 use Rattle.basic_toml_read.proofs.header.header_keys.Goals as goal
 
 pub loop-keyed-init : goal.loop-keyed-init
@@ -49,11 +49,11 @@ pub returns-in_err-keyed : goal.returns-in_err-keyed
 returns-in_err-keyed c =
     let e = c.in_err-keyed.ensures in
     rw (is_err c.from_residual-in_err-keyed.ensures.1)
-    (header_keys_stop c.args.text.now c.args.at _ (no_key c.loop-keyed.invariant _ e.read e.inside))
+    (no_key c.loop-keyed.invariant (λ n. nesting_limit < n + 1) _ e.read e.inside)
 
 pub returns-in_err-raise : goal.returns-in_err-raise
 returns-in_err-raise c =
     let e = c.in_err-raise.ensures in
     rw (is_err c.from_residual-in_err-raise.ensures.1 ∙ ap (λ s. Err s) e.1)
-    (header_keys_stop c.args.text.now c.args.at _
-    (key_too_deep c.loop-keyed.invariant c.in_ok-keyed.keyed c.in_ok-keyed.ensures.read e.0))
+    (key_too_deep c.loop-keyed.invariant (λ n. nesting_limit < n + 1) (λ n h. omega (arith, h)) c.in_ok-keyed.keyed
+    c.in_ok-keyed.ensures.read e.0)

@@ -1,5 +1,7 @@
-use Rattle.std.proofs.Common.{[], ◌∷◌, ◌++◌, map, append_assoc, append-nil, ap, arith, refl, sym, ◌∙◌, Err}
+use Rattle.std.proofs.Common.{◌+◌, ◌-◌, ◌<◌, [], ◌∷◌, ◌++◌, map, append_assoc, append-nil, ap, arith, refl, sym, ◌∙◌}
+use Rattle.std.proofs.Common.{Err}
 use Rattle.std.proofs.lemmas.List.{length-map}
+use Rattle.basic_toml_value.specs.Nesting.{nesting_limit}
 use Rattle.basic_toml_tokens.specs.Text.{text_at}
 use Rattle.basic_toml_read.specs.declared.section.Key.{Key}
 use Rattle.basic_toml_read.specs.SectionView.{key_of}
@@ -57,10 +59,11 @@ returns-in-None-clause-read c =
 pub returns-in_err-keyed : goal.returns-in_err-keyed
 returns-in_err-keyed c =
     let e = c.in_err-keyed.ensures in
-    rw (is_err c.from_residual.ensures.1) (no_key c.loop-keyed.invariant.keys _ e.read e.inside)
+    rw (is_err c.from_residual.ensures.1) (no_key c.loop-keyed.invariant.keys (λ n. nesting_limit < c.args.first + n - 1) _ e.read e.inside)
 
 pub returns-in_err-raise : goal.returns-in_err-raise
 returns-in_err-raise c =
     let e = c.in_err-raise.ensures in
     rw (is_err c.from_residual-in_err-raise.ensures.1 ∙ ap (λ s. Err s) e.1)
-    (key_too_deep c.loop-keyed.invariant.keys c.in_ok-keyed.keyed c.in_ok-keyed.ensures.read e.0)
+    (key_too_deep c.loop-keyed.invariant.keys (λ n. nesting_limit < c.args.first + n - 1) (λ n h. h)
+    c.in_ok-keyed.keyed c.in_ok-keyed.ensures.read e.0)
