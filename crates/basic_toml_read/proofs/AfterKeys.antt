@@ -77,12 +77,7 @@ module _ {bytes : List ℕ} {at level : ℕ} {old new : Gathered} {last : LastKe
   all_keys = k.front ++ record { offset = last.offset; text = key_text_bytes last.key } ∷ []
 
   pub level_of_last : level + length all_keys - 1 ≡ last.level
-  level_of_last =
-      omega (
-        arith,
-        k.level_is,
-        length-append k.front (record { offset = last.offset; text = key_text_bytes last.key } ∷ []),
-      )
+  level_of_last = omega (arith, k.level_is, length-append {A = Key})
 
   keys_stand : IsKeys (text_at bytes at) all_keys k.mid
   keys_stand = keys_there (text_at bytes at) (all_keys, k.mid) k.is
@@ -157,13 +152,7 @@ module _ {bytes : List ℕ} {at level : ℕ} {old new : Gathered} {last : LastKe
               λ rest. rw (← k.seen)
               (row_before last.key last.offset n v.offset v.value r.found.raw k.parents rest r.found.seen count);
           elements = r.keeps.elements ∙ k.elements;
-          limit = omega (
-            arith,
-            r.limit,
-            k.limit,
-            level_of_last,
-            ap (λ n. value_level n r.found.raw) level_of_last,
-          );
+          limit = omega (arith, level_of_last, ap (λ n. value_level n r.found.raw) level_of_last);
           boundary = r.found.boundary;
           later = omega (arith, k.later, sign.2, left.forward, r.found.later);
         }

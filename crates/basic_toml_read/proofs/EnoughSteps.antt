@@ -129,12 +129,9 @@ unfolding elements_of value_of
 elements_is text =
     rw (add-suc (4 * length text) 1) (found_alike (char_at 93 text) _ _ _ _ (λ _ _. refl) (λ _.
     then_alike (value_of text) _ _ (λ v e. found_alike (char_at 44 (gap v.rest)) _ _ _ _
-    (λ s f. then_from _ (elements_enough _ _ (gap s.1) (omega (
-      arith,
-      value_shorter (value_read _ text v e),
-      shorter_after_gap v.rest (sign_read 44 (gap v.rest) s f),
-      gap_length s.1,
-    )) (omega arith))) (λ _. refl))))
+    (λ s f. let less = shorter_after_gap v.rest (sign_read 44 (gap v.rest) s f) in
+    let least = value_shorter (value_read _ text v e) in
+    then_from _ (elements_enough _ _ (gap s.1) (omega (arith, gap_length s.1)) (omega arith))) (λ _. refl))))
 
 pub fields_is : (text : Text)
     → fields_of text ≡ if_found (char_at 125 text) (λ s. Some (no_rows, s.1)) (fields_on_of text)
@@ -170,16 +167,14 @@ unfolding rows_of row_of
 rows_is x text =
     let n = 4 * length (x ∷ text) + 2 in
     let front = after_blanks (x ∷ text) in
-    rw (add-suc (4 * length (x ∷ text)) 2) (found_alike (char_at 91 front) _ _ _ _ (λ _ _. refl) (λ _. found_alike (line_end_at (x ∷ text)) _ _ _ _
+    let blanks = blanks_length (x ∷ text) in
+    rw (add-suc (4 * length (x ∷ text)) 2) (found_alike (char_at 91 front) _ _ _ _ (λ _ _. refl) (λ _.
+    found_alike (line_end_at (x ∷ text)) _ _ _ _
     (λ next e. rows_enough n _ next (omega (arith, line_shorter (line_end_read (x ∷ text) next e))) (omega arith))
     (λ _. then_alike (row_at (suc n) front) _ _ (λ v e. then_alike (line_end_at v.rest) _ _
-    (λ next f. then_from _ (rows_enough n _ next (omega (
-      arith,
-      blanks_length (x ∷ text),
-      row_shorter (row_read (suc n) front v e),
-      ends_shorter (line_end_read v.rest next f),
-    )) (omega arith))))
-    ∙ then_from _ (row_enough (suc n) _ front (omega (arith, blanks_length (x ∷ text))) (omega arith)))))
+    (λ next f. let less = ends_shorter (line_end_read v.rest next f) in
+    then_from _ (rows_enough n _ next (omega (arith, row_shorter (row_read (suc n) front v e))) (omega arith))))
+    ∙ then_from _ (row_enough (suc n) _ front (omega arith) (omega arith)))))
 
 pub header_is : (text : Text)
     → header_of text ≡ and_then (char_at 91 text) (λ s. if_found (char_at 91 s.1)
@@ -203,26 +198,21 @@ unfolding sections_of header_of rows_of
 sections_is x text =
     let n = 4 * length (x ∷ text) + 2 in
     let front = after_blanks (x ∷ text) in
+    let blanks = blanks_length (x ∷ text) in
     rw (add-suc (4 * length (x ∷ text)) 2) (then_alike (header_at (suc n) front) _ _ (λ head e.
     then_alike (line_end_at head.rest) _ _ (λ next f.
-    let less : length next < length (x ∷ text) = omega (
-      arith,
-      blanks_length (x ∷ text),
-      header_shorter (header_read (suc n) front head e),
-      ends_shorter (line_end_read head.rest next f),
-    ) in
+    let less : length next < length (x ∷ text) =
+    omega (arith, header_shorter (header_read (suc n) front head e), ends_shorter (line_end_read head.rest next f)) in
     then_alike (rows_at (suc n) next) _ _ (λ rs g. then_from _ (sections_enough n _ rs.1
     (omega (arith, rows_shorter (rows_read (suc n) next rs g))) (omega arith)))
-    ∙ then_from _ (rows_enough (suc n) _ next (omega arith) (omega arith))))
-    ∙ then_from _ (header_enough (suc n) (suc (length front)) front
-    (omega (arith, blanks_length (x ∷ text))) (omega arith)))
+    ∙ then_from _ (rows_enough (suc n) (4 * length next + 3) next (omega arith) (omega arith))))
+    ∙ then_from _ (header_enough (suc n) (suc (length front)) front (omega arith) (omega arith)))
 
 pub list_is : (text : Text)
     → section_list_of text ≡ and_then (rows_of text)
     (λ rows. and_then (sections_of rows.1) (λ headed. Some (with_root rows.0 headed)))
 unfolding rows_of sections_of
 list_is text =
-    then_alike (rows_at (4 * length text + 4) text) _ _
-    (λ rows e. then_from _ (sections_enough (4 * length text + 4) (4 * length rows.1 + 3) rows.1
+    then_alike (rows_at (4 * length text + 4) text) _ _ (λ rows e. then_from _ (sections_enough _ _ rows.1
     (omega (arith, rows_shorter (rows_read (4 * length text + 4) text rows e))) (omega arith)))
-    ∙ then_from _ (rows_enough (4 * length text + 4) (4 * length text + 3) text (omega arith) (omega arith))
+    ∙ then_from _ (rows_enough _ _ text (omega arith) (omega arith))

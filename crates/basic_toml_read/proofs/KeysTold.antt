@@ -93,7 +93,8 @@ module _ {bytes : List ℕ} {at first offset level : ℕ} {front : List code_key
   no_key TooMany stop missed inside = go stop.why stop.at missed.0 missed.1 inside
     where
       go : (w : Why) (p : ℕ) → MissesKey w (text_at bytes offset) → (w ≡ why.Key → p ≡ offset)
-          → StopsInside bytes (record { at = p; why = w }) → KeysStop bytes at first TooMany (record { at = p; why = w })
+          → StopsInside bytes (record { at = p; why = w })
+          → KeysStop bytes at first TooMany (record { at = p; why = w })
       go Memory p m same inside = record { read = tt; inside = inside; deep = tt; hole = tt }
       go why.Key p m same inside = record {
         read = s.told ∙ after_from _ (keys_is (text_at bytes offset) ∙ then_from _ m);

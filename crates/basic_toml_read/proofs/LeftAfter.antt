@@ -39,10 +39,7 @@ line_goes_on bytes at None some e = no_end (text_at bytes at) e some
 pub gap_past_blanks : (text : Text) → after_gap is_comment (after_blanks text) ≡ after_gap is_comment text
 gap_past_blanks [] = refl
 gap_past_blanks (x ∷ text) =
-    elim (cases_Bool (is_blank x.1)) [
-      | inl e ↦ rw e (gap_past_blanks text)
-      | inr e ↦ (let same : after_blanks (x ∷ text) ≡ x ∷ text = rw e refl in ap (after_gap is_comment) same)
-    ]
+    elim (cases_Bool (is_blank x.1)) [ inl e ↦ rw e (gap_past_blanks text) | inr e ↦ rw (e, e) refl ]
 
 -- what a comment does not hold ends it, and is no gap but for a line feed
 not_comment : (c : ℕ) → is_comment c ≡ false → (c == 10) ≡ false → ((is_blank c || c == 10) ≡ false)
@@ -56,9 +53,7 @@ in_comment (x ∷ text) =
       | inl e ↦ rw (eqb-true x.1 10 e) refl
       | inr e ↦ elim (cases_Bool (is_comment x.1)) [
         | inl f ↦ rw (e, f) (in_comment text)
-        | inr f ↦ (let no = not_comment x.1 f e in
-            let there : after_gap is_comment (x ∷ text) ≡ x ∷ text = rw (no.0, no.1) refl in
-            rw (e, f) (sym there))
+        | inr f ↦ (let no = not_comment x.1 f e in rw (e, f, no.0, no.1) refl)
       ]
     ]
 
@@ -66,11 +61,7 @@ pub gap_past_comment : (text : Text)
     → after_gap is_comment (after_comment_by is_comment text) ≡ after_gap is_comment text
 gap_past_comment [] = refl
 gap_past_comment (x ∷ text) =
-    elim (cases_Bool (x.1 == 35)) [
-      | inl e ↦ rw (eqb-true x.1 35 e) (sym (in_comment text))
-      | inr e ↦ (let same : after_comment_by is_comment (x ∷ text) ≡ x ∷ text = rw e refl in
-          ap (after_gap is_comment) same)
-    ]
+    elim (cases_Bool (x.1 == 35)) [ inl e ↦ rw (eqb-true x.1 35 e) (sym (in_comment text)) | inr e ↦ rw (e, e) refl ]
 
 abbrev pub line_of : Text → Text
 line_of text = after_comment_by is_comment (after_blanks text)
@@ -78,11 +69,16 @@ line_of text = after_comment_by is_comment (after_blanks text)
 pub gap_past_line : (text : Text) → after_gap is_comment (line_of text) ≡ after_gap is_comment text
 gap_past_line text = gap_past_comment (after_blanks text) ∙ gap_past_blanks text
 
--- a gap ends where no line feed stands after a comment
-stands : (x : ℕ × ℕ) (text : Text) → (x.1 == 10) ≡ false → is_blank x.1 ≡ false → (x.1 == 35) ≡ false
-    → after_gap is_comment (x ∷ text) ≡ x ∷ text
-stands x text a b c = rw (or_from (is_blank x.1) (x.1 == 10) b a, c) refl
+-- a gap ends where neither a blank nor a line feed nor a comment stands
+pub gap_stands : (text : Text) → after_blanks text ≡ text → after_run (λ c. c == 10) text ≡ text
+    → after_run (λ c. c == 35) text ≡ text → after_gap is_comment text ≡ text
+gap_stands [] a b c = refl
+gap_stands (x ∷ text) a b c = rw (
+  or_from (is_blank x.1) (x.1 == 10) (fails_first is_blank x text a) (fails_first (λ d. d == 10) x text b),
+  fails_first (λ d. d == 35) x text c,
+) refl
 
+-- nor does it go on where no line feed stands after a comment
 pub gap_stops : (text : Text) → after_run (λ c. c == 10) (line_of text) ≡ line_of text
     → after_gap is_comment (line_of text) ≡ line_of text
 gap_stops text e = go (after_blanks text) (after_twice is_blank text) e
@@ -99,16 +95,8 @@ gap_stops text e = go (after_blanks text) (after_twice is_blank text) e
     go [] h k = refl
     go (x ∷ t) h k = elim (cases_Bool (x.1 == 35)) [
       | inl f ↦ rw f (after (after_run is_comment t) (after_twice is_comment t) (rw f at k))
-      | inr f ↦ rw f (stands x t (fails_first (λ c. c == 10) x t (rw f at k)) (fails_first is_blank x t h) f)
+      | inr f ↦ rw f (gap_stands (x ∷ t) h (rw f at k) (rw f refl))
     ]
-
--- nor does one begin where neither a blank nor a line feed nor a comment stands
-pub gap_stands : (text : Text) → after_blanks text ≡ text → after_run (λ c. c == 10) text ≡ text
-    → after_run (λ c. c == 35) text ≡ text → after_gap is_comment text ≡ text
-gap_stands [] a b c = refl
-gap_stands (x ∷ text) a b c =
-    stands x text (fails_first (λ d. d == 10) x text b) (fails_first is_blank x text a)
-    (fails_first (λ d. d == 35) x text c)
 
 -- over a line feed
 pub gap_past_feed : {p : ℕ} {text next : Text} → StartsWith 10 text p next

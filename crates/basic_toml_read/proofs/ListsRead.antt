@@ -1,9 +1,9 @@
 -- The list of a text: the rows before its first header, a section by its header, and the sections one by one.
 use Rattle.std.proofs.Common.{◌≡◌, ℕ, ◌+◌, ◌<◌, ◌≤◌, max, List, [], ◌∷◌, ◌++◌, length, refl, ap, sym, ◌∙◌, arith}
-use Rattle.std.proofs.Common.{Option, Some, None, Ok, Err, ◌*◌, append_assoc, append-nil, map, suc}
+use Rattle.std.proofs.Common.{Option, Some, None, Ok, Err, ◌*◌, append_assoc, append-nil, map, suc, ◌==◌, true}
 use Rattle.std.specs.Option.{IfSome}
 use Rattle.std.specs.Str.{IsCharBoundary}
-use Rattle.std.proofs.lemmas.List.{length-map}
+use Rattle.std.proofs.lemmas.List.{length-map, nil_from_length}
 use Rattle.basic_toml_value.specs.Nesting.{nesting_limit}
 use Rattle.basic_toml_tokens.specs.Text.{Text, text_at, folded, start_of, is_comment, after_blanks}
 use Rattle.basic_toml_grammar.specs.Sections.{Rows, no_rows, row, Section, Key}
@@ -13,7 +13,7 @@ use Rattle.basic_toml_grammar.specs.Levels.{rows_level, highest_level, section_l
 use Rattle.basic_toml_grammar.specs.Reader.{section_list_of, end_of, line_end_at}
 use Rattle.basic_toml_grammar.specs.Holes.{HoleInText, HoleInSections}
 use Rattle.basic_toml_grammar.specs.DeepStops as deep
-use Rattle.basic_toml_grammar.specs.DeepStops.{DeepRows, DeepStop, DeepSections}
+use Rattle.basic_toml_grammar.specs.DeepStops.{DeepRows}
 use Rattle.basic_toml_grammar.specs.Reader as reader
 use Rattle.basic_toml_explain.specs.declared.stop.Stop.{Stop}
 use Rattle.basic_toml_explain.specs.Stop.{StopsInside}
@@ -34,6 +34,8 @@ use Rattle.basic_toml_read.proofs.RowsRead.{RowsAnswered}
 use Rattle.basic_toml_read.proofs.NothingTooDeep.{root_rows, after_header, its_rows}
 use Rattle.basic_toml_read.proofs.EnoughSteps.{list_is, sections_is}
 use Rattle.basic_toml_read.proofs.GoesOn.{misses_none, misses_on, then_from}
+use Rattle.std.specs.Vec.{vec_len}
+use Rattle.std.proofs.lemmas.Bool.{eqb-true}
 
 root_onto : (rs : Rows) (headed : List Section) → with_root rs headed ≡ with_root rs [] ++ headed
 root_onto no_rows headed = refl
@@ -71,13 +73,14 @@ module _ (bytes : List ℕ) {start : ℕ} (start_is : start ≡ start_of bytes) 
       (λ rows. and_then (sections_of rows.1) (λ headed. Some (with_root rows.0 headed)))
   list_by = rw start_is (list_is (folded bytes))
 
-  -- where no row is, no parents are
-  pub root_parents : {old mid : Gathered} {next : Option ℕ} → lines_of old ≡ no_lines
-      → AreRowsRead bytes start 1 old mid next → mid.rows.items ≡ [] → mid.parents.items ≡ []
-  root_parents empty r none =
+  -- where no row is, nothing is gathered
+  pub root_none : {old mid : Gathered} {next : Option ℕ} → lines_of old ≡ no_lines
+      → AreRowsRead bytes start 1 old mid next → (vec_len mid.rows == 0) ≡ true → lines_of mid ≡ no_lines
+  root_none {mid = mid} empty r none =
       let added = added_lines r empty in
-      let no_rows : r.added.rows ≡ [] = ap (λ (l : Lines). l.rows) (sym added) ∙ none in
-      ap (λ (l : Lines). l.parents) (added ∙ r.some (rw no_rows refl))
+      let nil = nil_from_length mid.rows.items (omega (arith, eqb-true _ _ none, mid.rows.ok.0)) in
+      let no_rows : r.added.rows ≡ [] = ap (λ (l : Lines). l.rows) (sym added) ∙ nil in
+      added ∙ r.some (rw no_rows refl)
 
   pub root_there : {old mid : Gathered} {next : Option ℕ} → lines_of old ≡ no_lines
       → AreRowsRead bytes start 1 old mid next → PassesGaps bytes start old mid (Ok next)
@@ -108,13 +111,8 @@ module _ (bytes : List ℕ) {start : ℕ} (start_is : start ≡ start_of bytes) 
     missed = misses_on stop.why (rows_of (text_at bytes start)) _ _ _ list_by
         (λ rows y f h. let (headed, headed_is, same) = then_some (sections_of rows.1) _ y f in
         let there : with_root rows.0 headed ≡ y = cc in
-        omega (
-          arith,
-          h,
-          ap highest_level (sym (root_onto rows.0 headed) ∙ there),
-          highest_onto (with_root rows.0 []) headed,
-          (root_level rows.0).0,
-        ))
+        let onto = ap highest_level (sym (root_onto rows.0 headed) ∙ there) in
+        omega (arith, onto, highest_onto (with_root rows.0 []) headed, (root_level rows.0).0))
         e.read;
     inside = e.inside;
     more = λ g. let passed = (e.gaps (rw start_is g)).0 in cc;
@@ -282,10 +280,11 @@ module _ (bytes : List ℕ) (at : ℕ) (list : List Section) (s : ListSoFar byte
         (e.hole s.rest s.ends.3 s.ends.5);
   }
 
-pub falls : (bytes : List ℕ) (at : ℕ) (next : Option ℕ) (rest : Text) → at ≤ length bytes
-    → IsFrom (at + 1) next → NextAt bytes rest next → left_after bytes next < left_after bytes (Some at)
-falls bytes at None rest h f n = omega arith
-falls bytes at (Some p) rest h f n = omega (arith, n.4.0)
+-- what is left behind a place is no more than what is left from an offset before it
+pub left_from : (bytes : List ℕ) (from : ℕ) (next : Option ℕ) (rest : Text) → from ≤ length bytes + 1
+    → IsFrom from next → NextAt bytes rest next → left_after bytes next + from < length bytes + 2
+left_from bytes from None rest h f n = omega arith
+left_from bytes from (Some p) rest h f n = omega (arith, n.4.0)
 
 -- the end of the text
 pub list_over : (bytes : List ℕ) (list : List Section) → ListSoFar bytes None list → IsList bytes list

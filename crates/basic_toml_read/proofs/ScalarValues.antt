@@ -10,12 +10,12 @@ use Rattle.basic_toml_tokens.specs.Text.{Text, text_at, run}
 use Rattle.basic_toml_grammar.specs.Copies.{up_to, needs_copy}
 use Rattle.basic_toml_grammar.specs.DeepStops.{DeepValue, array, inline}
 use Rattle.basic_toml_grammar.specs.Grammar.{is_wordlike, number_value, word_value}
-use Rattle.basic_toml_grammar.specs.Holes.{Hole, HoleInValue}
+use Rattle.basic_toml_grammar.specs.Holes.{HoleInValue}
 use Rattle.basic_toml_grammar.specs.Levels.{value_level}
 use Rattle.basic_toml_grammar.specs.Reader as reader
 use Rattle.basic_toml_grammar.specs.Reader.{char_at, string_at, word_at, string_value_at}
 use Rattle.basic_toml_grammar.specs.Sections.{Raw}
-use Rattle.basic_toml_explain.specs.StopHoles.{NoValue, hole_behind}
+use Rattle.basic_toml_explain.specs.StopHoles.{hole_behind}
 use Rattle.basic_toml_explain.specs.Stop.{StopsInside}
 use Rattle.basic_toml_explain.specs.declared.stop.End.{End}
 use Rattle.basic_toml_explain.specs.declared.stop.Stop.{Stop}
@@ -85,9 +85,18 @@ module _ (bytes : List ℕ) (at level : ℕ) (end : End) (old : Gathered) (brack
   nothing_deep p (array s d) = within.no_such bracket s
   nothing_deep p (inline s d) = within.no_such brace s
 
-  no_value : run is_wordlike (text_at bytes at) ≡ [] → string_at (text_at bytes at) ≡ None
-      → HoleInValue (text_at bytes at) Hole.value (text_at bytes at) × NoValue (text_at bytes at)
-  no_value no_word no_string = (HoleInValue.this_value, (no_word, no_string, bracket, brace))
+  missed : word_at (text_at bytes at) ≡ None → string_at (text_at bytes at) ≡ None → value_of (text_at bytes at) ≡ None
+  missed no_word no_string = scalar_by None no_word ∙ then_from _ no_string
+
+  value_wanted : (p : ℕ) → p ≡ at → word_at (text_at bytes at) ≡ None → run is_wordlike (text_at bytes at) ≡ []
+      → string_at (text_at bytes at) ≡ None → StopsInside bytes (record { at = p; why = why.Value })
+      → ScalarAnswered (Err (record { at = p; why = why.Value }))
+  value_wanted p same no_word empty no_string inside = record {
+    read = missed no_word no_string;
+    inside = inside;
+    deep = nothing_deep;
+    hole = rw same (HoleInValue.this_value, (empty, no_string, bracket, brace));
+  }
 
   pub string_answered : (result : Result Valued Stop) → word_at (text_at bytes at) ≡ None
       → run is_wordlike (text_at bytes at) ≡ [] → ReadsStringAt bytes at result
@@ -99,12 +108,7 @@ module _ (bytes : List ℕ) (at level : ℕ) (end : End) (old : Gathered) (brack
       go : (w : Why) (p : ℕ) → MissesString w (text_at bytes at) → (w ≡ why.Value → p ≡ at)
           → StopsInside bytes (record { at = p; why = w }) → ScalarAnswered (Err (record { at = p; why = w }))
       go why.Memory p m same inside = record { read = tt; inside = inside; deep = tt; hole = tt }
-      go why.Value p m same inside = record {
-        read = scalar_by None no_word ∙ then_from _ m;
-        inside = inside;
-        deep = nothing_deep;
-        hole = rw (same refl) (no_value empty m);
-      }
+      go why.Value p m same inside = value_wanted p (same refl) no_word empty m inside
       go _ p m same inside = absurd m
 
   pub word_answered : (result : Result Valued Stop) → string_at (text_at bytes at) ≡ None → ReadsWordAt bytes at result
@@ -113,21 +117,13 @@ module _ (bytes : List ℕ) (at level : ℕ) (end : End) (old : Gathered) (brack
       without_stop (scalar_read f (scalar_by _ f.is) (word_level level (text_at bytes at) _ f.is))
   word_answered (Err stop) no_string f wants inside = go stop.why stop.at f.0 f.1 wants inside
     where
-      missed : word_at (text_at bytes at) ≡ None → value_of (text_at bytes at) ≡ None
-      missed e = scalar_by None e ∙ then_from _ no_string
-
       go : (w : Why) (p : ℕ) → MissesWord w (text_at bytes at) → ((w ≡ why.Memory → ⊥) → p ≡ at)
           → ((other : End) → w ≡ why.Word other → other ≡ end) → StopsInside bytes (record { at = p; why = w })
           → ScalarAnswered (Err (record { at = p; why = w }))
       go why.Memory p m same wants inside = record { read = tt; inside = inside; deep = tt; hole = tt }
-      go why.Value p m same wants inside = record {
-        read = missed m.0;
-        inside = inside;
-        deep = nothing_deep;
-        hole = rw (same (λ e. cc)) (no_value m.1 no_string);
-      }
+      go why.Value p m same wants inside = value_wanted p (same (λ e. cc)) m.0 m.1 no_string inside
       go (why.Word other) p m same wants inside = record {
-        read = missed m.0;
+        read = missed m.0 no_string;
         inside = inside;
         deep = nothing_deep;
         hole = rw (same (λ e. cc)) (record {

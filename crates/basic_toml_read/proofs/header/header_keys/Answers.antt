@@ -34,13 +34,7 @@ returns-in-None-clause-read c =
           (told_last s k read blanks c.in_ok-raise.ensures c.in-None.ensures);
       after = blanks.left;
       over = sign_missing 46 (text_at c.args.text.now c.after_blanks-end.result) c.in-None.ensures;
-      limit = omega (
-        arith,
-        ap length c.in_ok-push.ensures.items,
-        length-append front (this ∷ []),
-        s.level_is,
-        c.in_ok-raise.ensures,
-      );
+      limit = omega (arith, c.in_ok-raise.ensures, simp length-append at (ap length c.in_ok-push.ensures.items));
       boundary = blanks.boundary;
       later = omega (arith, s.forward, read.2, blanks.forward);
     }

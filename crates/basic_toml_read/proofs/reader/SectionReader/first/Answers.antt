@@ -4,8 +4,8 @@ use Rattle.basic_toml_grammar.specs.Grammar.{with_root}
 use Rattle.basic_toml_read.specs.Gathers.{Lines, lines_of, lines_view}
 use Rattle.basic_toml_read.specs.SectionsRead.{left_at, left_to_read}
 use Rattle.basic_toml_read.proofs.StandsIn.{is_err}
-use Rattle.basic_toml_read.proofs.ListsRead.{bracket_stands, root_stops, root_there, root_parents}
-use Rattle.basic_toml_read.proofs.SectionsHandedOut.{none_gathered, none_in, stops_on, less_than_all, rooted}
+use Rattle.basic_toml_read.proofs.ListsRead.{bracket_stands, root_stops, root_there, root_none, left_from}
+use Rattle.basic_toml_read.proofs.SectionsHandedOut.{none_in, stops_on, rooted}
 use Rattle.basic_toml_read.proofs.reader.SectionReader.first.Goals as goal
 
 pub returns-in_err-bracket : goal.returns-in_err-bracket
@@ -22,8 +22,9 @@ returns-then-is_empty c =
     let start = c.start.ensures.offset in
     let e = c.in_ok-bracket.ensures in
     let there = root_there bytes start c.requires.ready.none e.read e.gaps in
-    let none = none_gathered c.rows.new.self (sym c.is_empty.ensures ∙ c.if-is_empty.true)
-    (root_parents bytes start c.requires.ready.none e.read) in
+    let less = left_from bytes c.start.result _ e.read.rest (omega (arith, c.start.ensures.boundary.0)) e.read.from
+    e.read.ends in
+    let none = root_none bytes start c.requires.ready.none e.read (sym c.is_empty.ensures ∙ c.if-is_empty.true) in
     let on = c.headed.ensures in
     record {
       read = λ list so_far. let first : list ≡ [] = rw c.requires.start at so_far in
@@ -32,12 +33,7 @@ returns-then-is_empty c =
           on.read list (rw (← root) there);
       ready = on.ready;
       text = on.text;
-      later = λ e. omega (
-        arith,
-        on.later e,
-        ap (left_at bytes) c.requires.start,
-        less_than_all bytes _ there.rest there.ends,
-      );
+      later = λ e. omega (arith, on.later e, ap (left_at bytes) c.requires.start, less);
     }
 
 pub returns : goal.returns
@@ -47,6 +43,8 @@ returns c =
     let mid = c.rows.new.self in
     let e = c.in_ok-bracket.ensures in
     let there = root_there bytes c.start.ensures.offset c.requires.ready.none e.read e.gaps in
+    let less = left_from bytes c.start.result _ e.read.rest (omega (arith, c.start.ensures.boundary.0)) e.read.from
+    e.read.ends in
     let counted : length mid.rows.items ≡ vec_len mid.rows = omega (arith, mid.rows.ok.0) in
     let some = sym c.is_empty.ensures ∙ c.if-is_empty.false in
     record {
@@ -58,9 +56,5 @@ returns c =
         none = c.hand_out.ensures.taken ∙ none_in c.args.section.now c.requires.empty;
       };
       text = refl;
-      later = λ e. omega (
-        arith,
-        ap (left_at bytes) c.requires.start,
-        less_than_all bytes _ there.rest there.ends,
-      );
+      later = λ e. omega (arith, ap (left_at bytes) c.requires.start, less);
     }

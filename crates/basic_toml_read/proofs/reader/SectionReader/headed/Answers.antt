@@ -1,10 +1,10 @@
-use Rattle.std.proofs.Common.{refl, ap, ◌∙◌, arith}
+use Rattle.std.proofs.Common.{refl, ap, ◌∙◌, arith, ◌+◌}
 use Rattle.std.specs.Str.{IsCharBoundary}
 use Rattle.basic_toml_read.specs.Gathers.{lines_view}
 use Rattle.basic_toml_read.specs.SectionsRead.{left_at, left_to_read}
 use Rattle.basic_toml_read.specs.declared.reader.Place.TheVariants.{Behind}
 use Rattle.basic_toml_read.proofs.StandsIn.{is_err}
-use Rattle.basic_toml_read.proofs.ListsRead.{bracket_stands, falls, list_more, list_over, list_stops}
+use Rattle.basic_toml_read.proofs.ListsRead.{bracket_stands, list_more, list_over, list_stops, left_from}
 use Rattle.basic_toml_read.proofs.SectionsHandedOut.{none_in, stops_on}
 use Rattle.basic_toml_read.proofs.reader.SectionReader.headed.Goals as goal
 
@@ -33,6 +33,7 @@ returns c =
     let read = c.in_ok-header.ensures.read in
     let is = c.requires.behind ∙ ap (λ o. Behind o) c.in-Some.is in
     let here : IsCharBoundary bytes at = rw is at c.requires.ready.within in
+    let less = left_from bytes (at + 1) _ read.rest (omega (arith, here.0)) read.from read.ends in
     record {
       read = λ list so_far. rw (ap lines_view c.hand_out.ensures.handed)
           (list_more bytes at list (rw is at so_far) _ _ _ read);
@@ -41,10 +42,5 @@ returns c =
         none = c.hand_out.ensures.taken ∙ none_in c.args.section.now c.requires.empty;
       };
       text = refl;
-      later = λ e. omega (
-        arith,
-        here.0,
-        ap (left_at bytes) is,
-        falls bytes at _ read.rest here.0 read.from read.ends,
-      );
+      later = λ e. omega (arith, here.0, ap (left_at bytes) is, less);
     }

@@ -59,7 +59,8 @@ returns-in-None-clause-read c =
 pub returns-in_err-keyed : goal.returns-in_err-keyed
 returns-in_err-keyed c =
     let e = c.in_err-keyed.ensures in
-    rw (is_err c.from_residual.ensures.1) (no_key c.loop-keyed.invariant.keys (λ n. nesting_limit < c.args.first + n - 1) _ e.read e.inside)
+    rw (is_err c.from_residual.ensures.1)
+    (no_key c.loop-keyed.invariant.keys (λ n. nesting_limit < c.args.first + n - 1) _ e.read e.inside)
 
 pub returns-in_err-raise : goal.returns-in_err-raise
 returns-in_err-raise c =
