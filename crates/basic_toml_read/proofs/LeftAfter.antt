@@ -134,11 +134,6 @@ string_begins bytes at None a e = no_string (text_at bytes at) a e
 string_begins bytes at (Some next) a s =
     (omega (arith, s.1.0, s.2), ap is_quote s.3, ap word_at s.0, ap (run is_wordlike) s.0)
 
-pub quote_begins : (bytes : List ℕ) (at next : ℕ) → IsPunctuationEnd 34 bytes at (Some next)
-    → BeginsString bytes at true
-quote_begins bytes at next s =
-    (omega (arith, s.1.0, s.2), ap is_quote s.3, ap word_at s.0, ap (run is_wordlike) s.0)
-
 -- where a gap is all that is left
 pub gap_over : (text next : Text) → end_of text ≡ Some next → after_gap is_comment text ≡ []
     → after_gap is_comment next ≡ []

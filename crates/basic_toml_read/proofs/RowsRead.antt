@@ -1,5 +1,5 @@
 -- The rows of a section, line by line.
-use Rattle.std.proofs.Common.{inl, inr, ◌≡◌, ℕ, ◌<◌, ◌≤◌, List, [], ◌∷◌, length, refl, ap, sym, ◌∙◌, arith, true, false}
+use Rattle.std.proofs.Common.{inr, ◌≡◌, ℕ, ◌<◌, ◌≤◌, List, [], ◌∷◌, length, refl, ap, sym, ◌∙◌, arith, true, false}
 use Rattle.std.proofs.Common.{Option, Some, None, is_some, Result, Ok, Err, IfErr}
 use Rattle.std.specs.Str.{IsUtf8, IsCharBoundary}
 use Rattle.basic_toml_value.specs.Nesting.{nesting_limit}
@@ -21,8 +21,7 @@ use Rattle.basic_toml_read.specs.declared.values.Gathered.{Gathered}
 use Rattle.basic_toml_read.specs.FrontOf.{rows_of, row_of}
 use Rattle.basic_toml_read.specs.AtPlace.{EndsAt, Leaves}
 use Rattle.basic_toml_read.specs.Gathers.{row_level, Lines, and_lines, lines_of, IsRowRead}
-use Rattle.basic_toml_read.specs.Lists.{IsFrom, NextAt, AreRowsRead, EndsLineAt, EndsOrStops, IsGap, PassesGaps}
-use Rattle.basic_toml_read.specs.Lists.{ReadsRows}
+use Rattle.basic_toml_read.specs.Lists.{IsFrom, NextAt, AreRowsRead, EndsLineAt, IsGap, PassesGaps, ReadsRows}
 use Rattle.basic_toml_read.specs.StopsReached.{IfDeep, InHole, LeadsTo, in_row, in_rows}
 use Rattle.basic_toml_grammar.proofs.Grammar.StringsAreRead.{then_some}
 use Rattle.basic_toml_grammar.proofs.Grammar.ReaderIsSound.{line_end_read}
@@ -46,17 +45,6 @@ pub record RowsSoFar (bytes : List ℕ) (start level at : ℕ) (old new : Gather
   pub deep : SameDeep (DeepRows nesting_limit level (text_at bytes at))
       (DeepRows nesting_limit level (text_at bytes start))
   pub holes : LeadsTo (in_rows (text_at bytes at)) (in_rows (text_at bytes start))
-
--- the end of a line
-pub line_told : (bytes : List ℕ) (at end : ℕ) → Leaves bytes at end (line_of (text_at bytes at))
-    → (result : Result ℕ Stop) → EndsOrStops bytes end result → EndsLineAt bytes at result
-line_told bytes at end l (Ok next) e = (
-  ap end_of (sym l.left) ∙ e.0,
-  e.1,
-  omega (arith, l.forward, e.2),
-  elim e.3 [ inl m ↦ inl (omega (arith, l.forward)) | inr m ↦ inr m ],
-)
-line_told bytes at end l (Err stop) e = rw e.1 (ap end_of (sym l.left) ∙ e.0, refl, l.left)
 
 pub sign_stands : (c : ℕ) (bytes : List ℕ) (at : ℕ) (o : Option ℕ) → IsPunctuationEnd c bytes at o → true ≡ is_some o
     → (next : ℕ) × IsPunctuationEnd c bytes at (Some next)

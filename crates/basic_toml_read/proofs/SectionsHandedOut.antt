@@ -1,5 +1,5 @@
 -- A reader hands sections out one after another: where it is then, and what is left.
-use Rattle.std.proofs.Common.{inl, ◌≡◌, ◌+◌, ◌==◌, false, List, [], ◌∷◌, ◌++◌, length, refl, Err}
+use Rattle.std.proofs.Common.{inl, ◌≡◌, ◌==◌, false, List, [], ◌∷◌, ◌++◌, length, refl, Err}
 use Rattle.basic_toml_tokens.specs.Text.{folded}
 use Rattle.basic_toml_grammar.specs.Grammar.{with_root}
 use Rattle.basic_toml_grammar.specs.Sections.{Section}

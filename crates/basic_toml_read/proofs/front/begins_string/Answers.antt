@@ -1,10 +1,7 @@
-use Rattle.basic_toml_read.proofs.LeftAfter.{quote_begins, string_begins}
+use Rattle.basic_toml_read.proofs.LeftAfter.{string_begins}
 use Rattle.basic_toml_read.proofs.front.begins_string.Goals as goal
 
 pub returns-in-None : goal.returns-in-None
 returns-in-None c =
     rw c.is_some.ensures (string_begins c.args.text.now c.args.at c.after_punctuation-in-None.result c.in-None.ensures
     c.after_punctuation-in-None.ensures)
-
-pub returns-in-Some : goal.returns-in-Some
-returns-in-Some c = quote_begins c.args.text.now c.args.at c.in-Some.field-0 c.in-Some.ensures

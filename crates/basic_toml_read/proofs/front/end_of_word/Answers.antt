@@ -48,10 +48,3 @@ loop-next-preserved c =
       boundary = run.boundary;
       forward = omega (arith, run.forward, c.in-Some.ensures.2);
     }
-
-pub returns : goal.returns
-returns c = record {
-  left = sym (c.in_default.ensures c.loop-next.invariant.word) ∙ c.loop-next.invariant.rest;
-  boundary = c.loop-next.invariant.boundary;
-  forward = c.loop-next.invariant.forward;
-}

@@ -1,6 +1,5 @@
-use Rattle.std.proofs.Common.{inr, ap, ◌∙◌, refl, true, false, Err, arith}
+use Rattle.std.proofs.Common.{ap, ◌∙◌, refl, true, false, Err, arith}
 use Rattle.basic_toml_tokens.specs.Text.{text_at}
-use Rattle.basic_toml_grammar.proofs.Nesting.WithinTheLimit.{no_header_there}
 use Rattle.basic_toml_read.proofs.StandsIn.{is_err}
 use Rattle.basic_toml_read.proofs.EnoughSteps.{header_is}
 use Rattle.basic_toml_read.proofs.GoesOn.{then_from}
@@ -15,15 +14,11 @@ one c = one_bracket c.after_blanks.ensures c.in_ok-inner.ensures.read c.in-None.
 two : (c : After-after_blanks-in-Some) → Opened c.args.text.now c.args.at c.after_blanks-in-Some.result true
 two c = two_brackets c.after_blanks-in-Some.ensures c.in_ok-inner.ensures.read c.in-Some.ensures
 
-pub returns-in_err-inner : goal.returns-in_err-inner
-returns-in_err-inner c =
+pub returns-in_err-inner-clause-read : goal.returns-in_err-inner-clause-read
+returns-in_err-inner-clause-read c =
     let e = c.in_err-inner.ensures.read in
-    rw (is_err c.from_residual.ensures.1 ∙ ap (λ s. Err s) e.1) (record {
-      read = header_is (text_at c.args.text.now c.args.at) ∙ then_from _ e.0;
-      inside = inr c.requires.boundary;
-      deep = λ p d. no_header_there e.0 d;
-      hole = λ some. absurd (some e.0);
-    })
+    rw (is_err c.from_residual.ensures.1 ∙ ap (λ s. Err s) e.1)
+    (header_is (text_at c.args.text.now c.args.at) ∙ then_from _ e.0)
 
 -- the header of a table
 pub returns-in_err-after-in-None : goal.returns-in_err-after-in-None

@@ -1,4 +1,4 @@
-use Rattle.std.proofs.Common.{◌∙◌, refl}
+use Rattle.std.proofs.Common.{refl}
 use Rattle.std.specs.Cow.{cow_str_bytes}
 use Rattle.basic_toml_tokens.specs.String.{is_owned}
 use Rattle.basic_toml_grammar.specs.Sections as sections
@@ -28,13 +28,3 @@ returns-in-Err-clause-read c =
           (λ none. none),
       λ _. refl,
     )
-
-pub returns-in-Ok-clause-kept : goal.returns-in-Ok-clause-kept
-returns-in-Ok-clause-kept c =
-    let q = c.in-Ok.ensures in
-    record {
-      multiline = c.in-Ok.quoted.multiline;
-      value = q.value;
-      string = q.string;
-      copied = c.string_of.ensures.copied ∙ q.copied;
-    }

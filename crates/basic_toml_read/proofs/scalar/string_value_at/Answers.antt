@@ -15,8 +15,3 @@ returns-in-Some-clause-read c = record {
   boundary = c.in-Some.ensures.found.boundary;
   later = c.in-Some.ensures.found.forward;
 }
-
-pub returns-in-Some-clause-kept : goal.returns-in-Some-clause-kept
-returns-in-Some-clause-kept c =
-    let simple = c.in-Some.ensures.found in
-    record { multiline = false; value = simple.value; string = simple.string; copied = sym simple.not_copied }

@@ -1,4 +1,4 @@
-use Rattle.std.proofs.Common.{[], append-nil, Some, ◌≡◌, length, sym, ap, inl, Err, refl, arith, rules, ◌∙◌}
+use Rattle.std.proofs.Common.{[], append-nil, Some, ◌≡◌, length, sym, ap, Err, refl, arith, rules, ◌∙◌}
 use Rattle.basic_toml_tokens.specs.Text.{text_at}
 use Rattle.basic_toml_grammar.specs.DeepStops.{keys, this_brace, this_bracket, this_element, this_field, elements}
 use Rattle.basic_toml_grammar.specs.DeepStops.{fields}
@@ -186,15 +186,10 @@ value-returns t c =
     c.if-begins_string.ensures r.ensures.read r.ensures.wanted r.ensures.inside
 
 -- an array
-pub array-returns-in_err-raise : goal.array-returns-in_err-raise
-array-returns-in_err-raise t c =
+pub array-returns-in_err-raise-clause-deep : goal.array-returns-in_err-raise-clause-deep
+array-returns-in_err-raise-clause-deep t c =
     let e = c.in_err-raise.ensures in
-    rw (is_err c.from_residual.ensures.1 ∙ ap (λ s. Err s) e.1) (record {
-      read = λ x is. inl e.0;
-      inside = search rules;
-      deep = this_bracket e.0;
-      hole = tt;
-    })
+    rw (is_err c.from_residual.ensures.1 ∙ ap (λ s. Err s) e.1) (this_bracket e.0)
 
 pub array-returns-in_err-end : goal.array-returns-in_err-end
 array-returns-in_err-end t c =
@@ -223,15 +218,10 @@ array-returns-clause-read t c =
     }
 
 -- an inline table
-pub inline-returns-in_err-raise : goal.inline-returns-in_err-raise
-inline-returns-in_err-raise t c =
+pub inline-returns-in_err-raise-clause-deep : goal.inline-returns-in_err-raise-clause-deep
+inline-returns-in_err-raise-clause-deep t c =
     let e = c.in_err-raise.ensures in
-    rw (is_err c.from_residual.ensures.1 ∙ ap (λ s. Err s) e.1) (record {
-      read = λ x is. inl e.0;
-      inside = search rules;
-      deep = this_brace e.0;
-      hole = tt;
-    })
+    rw (is_err c.from_residual.ensures.1 ∙ ap (λ s. Err s) e.1) (this_brace e.0)
 
 pub inline-returns-in_err-end : goal.inline-returns-in_err-end
 inline-returns-in_err-end t c =
