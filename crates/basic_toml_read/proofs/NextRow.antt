@@ -8,6 +8,7 @@ use Rattle.basic_toml_read.specs.declared.section.Row.{Row, out-Row}
 use Rattle.basic_toml_read.specs.declared.section.Key as code_keys
 use Rattle.basic_toml_read.specs.KeyText.{key_text_bytes}
 use Rattle.basic_toml_read.specs.SectionView.{key_of, raw_of, lined_of, rows_from}
+use lib.Seq.{take-nil, drop-nil}
 
 pub lined_is : (r : Row) → lined_of r ≡ record {
   key = record { offset = (out-Row r).offset; text = key_text_bytes (out-Row r).key };
@@ -32,13 +33,7 @@ first_row parents r rest =
 pub lone_row : (r : Row) (rest : List Row)
     → rows_from [] (map lined_of (r ∷ rest))
     ≡ row ((lined_of r).key ∷ []) (lined_of r).start (lined_of r).value (rows_from [] (map lined_of rest))
-lone_row r rest = alone (lined_of r).parents
-  where
-    alone : (n : ℕ) → row (take n [] ++ (lined_of r).key ∷ []) (lined_of r).start (lined_of r).value
-        (rows_from (drop n []) (map lined_of rest))
-        ≡ row ((lined_of r).key ∷ []) (lined_of r).start (lined_of r).value (rows_from [] (map lined_of rest))
-    alone zero = refl
-    alone (suc n) = refl
+lone_row r rest = rw (take-nil, drop-nil) refl
 
 -- the row at a number
 pub next_row : (parents : List code_keys.Key) (rows : List Row) (i : ℕ) (r : Row) → i < length rows

@@ -1,6 +1,6 @@
 -- The rows of a section, line by line.
-use Rattle.std.proofs.Common.{inr, ◌≡◌, ℕ, ◌<◌, ◌≤◌, List, [], ◌∷◌, length, refl, ap, sym, ◌∙◌, arith, true, false}
-use Rattle.std.proofs.Common.{Option, Some, None, is_some, Result, Ok, Err, IfErr}
+use Rattle.std.proofs.Common.{inr, ◌≡◌, ℕ, ◌<◌, ◌≤◌, List, [], ◌∷◌, length, refl, ap, sym, ◌∙◌, arith, true, Option}
+use Rattle.std.proofs.Common.{Some, None, is_some, Result, Ok, Err, IfErr}
 use Rattle.std.specs.Str.{IsUtf8, IsCharBoundary}
 use Rattle.basic_toml_value.specs.Nesting.{nesting_limit}
 use Rattle.basic_toml_tokens.specs.Text.{Text, text_at, is_comment, after_blanks}
@@ -50,11 +50,6 @@ pub sign_stands : (c : ℕ) (bytes : List ℕ) (at : ℕ) (o : Option ℕ) → I
     → (next : ℕ) × IsPunctuationEnd c bytes at (Some next)
 sign_stands c bytes at None s e = cc
 sign_stands c bytes at (Some next) s e = (next, s)
-
-pub sign_lacks : (c : ℕ) (bytes : List ℕ) (at : ℕ) (o : Option ℕ) → IsPunctuationEnd c bytes at o → false ≡ is_some o
-    → IsPunctuationEnd c bytes at None
-sign_lacks c bytes at None s e = s
-sign_lacks c bytes at (Some next) s e = cc
 
 -- a line, and where the blanks at its front end
 pub record IsLine (bytes : List ℕ) (at front : ℕ) : Type 0 where

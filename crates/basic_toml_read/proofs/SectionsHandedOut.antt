@@ -1,5 +1,5 @@
 -- A reader hands sections out one after another: where it is then, and what is left.
-use Rattle.std.proofs.Common.{inl, ◌≡◌, ◌==◌, false, List, [], ◌∷◌, ◌++◌, length, refl, Err}
+use Rattle.std.proofs.Common.{inl, ◌≡◌, ◌==◌, false, List, [], ◌∷◌, ◌++◌, length, refl, Err, length-append, ap, arith}
 use Rattle.basic_toml_tokens.specs.Text.{folded}
 use Rattle.basic_toml_grammar.specs.Grammar.{with_root}
 use Rattle.basic_toml_grammar.specs.Sections.{Section}
@@ -48,10 +48,6 @@ refused_after reader list s stop so_far is = rw is (record {
   hole = tt;
 })
   where
-    some_listed : (front : List Section) → front ++ s ∷ [] ≡ [] → ⊥
-    some_listed [] e = cc
-    some_listed (t ∷ front) e = cc
-
     at_place : (p : Place) → IsBehind reader.text.now p (list ++ s ∷ []) → IsGap (folded reader.text.now) → ⊥
-    at_place Start is g = some_listed list is
-    at_place (Behind next) is g = some_listed list (is.gaps g).1
+    at_place Start is g = omega (arith, simp length-append at (ap length is))
+    at_place (Behind next) is g = omega (arith, simp length-append at (ap length (is.gaps g).1))

@@ -1,5 +1,5 @@
 -- What each form of the code's values stands for.
-use Rattle.std.proofs.Common.{◌≡◌, ℕ, List, [], ◌∷◌, ◌++◌, sym, ◌∙◌, drop, take, length, map, Vec, Global, refl, rules}
+use Rattle.std.proofs.Common.{◌≡◌, ℕ, List, [], ◌∷◌, ◌++◌, sym, ◌∙◌, length, map, Vec, Global, refl, rules}
 use Rattle.std.proofs.Common.{append_assoc, append-nil}
 use Rattle.std.proofs.Math.Seq.{drop-append_seam, take-append_seam}
 use Rattle.std.proofs.lemmas.List.{map-append, length-map}
@@ -42,13 +42,5 @@ pub row_before : (key : KeyText) (offset n start : ℕ) (value : Raw) (v : spec.
     ≡ spec.row (map key_of parents ++ record { offset = offset; text = key_text_bytes key } ∷ []) start v
     (lines_view rest)
 row_before key offset n start value v parents rest e count =
-    rw (lined_is, map-append key_of parents rest.parents, taken, dropped, e) refl
-  where
-    counted : n ≡ length (map key_of parents)
-    counted = count ∙ sym (length-map parents key_of)
-
-    taken : take n (map key_of parents ++ map key_of rest.parents) ≡ map key_of parents
-    taken = rw counted (take-append_seam (map key_of parents) (map key_of rest.parents))
-
-    dropped : drop n (map key_of parents ++ map key_of rest.parents) ≡ map key_of rest.parents
-    dropped = rw counted (drop-append_seam (map key_of parents) (map key_of rest.parents))
+    let counted : n ≡ length (map key_of parents) = count ∙ sym (length-map parents key_of) in
+    rw (lined_is, map-append key_of parents rest.parents, counted, take-append_seam, drop-append_seam, e) refl

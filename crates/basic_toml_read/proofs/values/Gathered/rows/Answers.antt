@@ -10,15 +10,16 @@ use Rattle.basic_toml_read.specs.FrontOf.{rows_of}
 use Rattle.basic_toml_read.specs.Gathers.{no_lines}
 use Rattle.basic_toml_read.proofs.LeftAfter.{line_of, no_comment}
 use Rattle.basic_toml_read.proofs.RowsRead.{NoHeader, bracket_no_gap, comment_stops, line_here, row_stops, rows_bracket}
-use Rattle.basic_toml_read.proofs.RowsRead.{rows_empty, rows_more, rows_over, sign_lacks, sign_stands, unended_stops}
+use Rattle.basic_toml_read.proofs.RowsRead.{rows_empty, rows_more, rows_over, sign_stands, unended_stops}
 use Rattle.basic_toml_read.proofs.values.Gathered.rows.Goals.{After-after_comment, Else-is_some, Else-is_some-2}
 use Rattle.basic_toml_read.proofs.values.Gathered.rows.Goals as goal
+use Rattle.basic_toml_explain.proofs.NumberFaultIsFound.{none_from}
 
 -- a line without a header
 no_header : (c : Else-is_some) → NoHeader c.args.text.now c.loop-at.at c.after_blanks-front.result
 no_header c = record {
   line = line_here _ _ _ c.utf8.text c.loop-at.invariant.boundary c.loop-at-test.true c.after_blanks-front.ensures;
-  none = sign_lacks 91 c.args.text.now c.after_blanks-front.result _ c.after_punctuation.ensures c.if-is_some.ensures;
+  none = rw (none_from _ (sym c.if-is_some.ensures)) at c.after_punctuation.ensures;
 }
 
 -- one of a comment
@@ -29,9 +30,7 @@ comment c =
 
 -- one without a comment at its front
 no_hash : (c : Else-is_some-2) → IsPunctuationEnd 35 c.args.text.now c.after_blanks-front.result None
-no_hash c =
-    sign_lacks 35 c.args.text.now c.after_blanks-front.result _ c.after_punctuation-in-loop-at.ensures
-    c.if-is_some-2.ensures
+no_hash c = rw (none_from _ (sym c.if-is_some-2.ensures)) at c.after_punctuation-in-loop-at.ensures
 
 same_end : (c : Else-is_some-2) → line_end_at (text_at c.args.text.now c.loop-at.at)
     ≡ end_of (text_at c.args.text.now c.after_blanks-front.result)
