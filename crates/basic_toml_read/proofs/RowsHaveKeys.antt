@@ -1,6 +1,5 @@
 -- Rows that the code reads have keys at every depth.
 use Rattle.std.proofs.Common.{◌≡◌, true, List, [], ◌∷◌, ◌++◌, map, take, drop, refl, subst, rules}
-use Rattle.std.specs.Prelude.{⊤}
 use mathlib.Core.List.{map-map}
 use Rattle.basic_toml_grammar.specs.Sections.{Key, Rows, no_rows, row}
 use Rattle.basic_toml_grammar.specs.Entering.{has_key, rows_keyed, keyed_within, value_keyed, elements_keyed}
@@ -11,7 +10,6 @@ use Rattle.basic_toml_read.specs.declared.section.Element.{Element, out-Element}
 use Rattle.basic_toml_read.specs.declared.section.Key as keys
 use Rattle.basic_toml_read.specs.declared.section.Row.{Row, out-Row}
 use Rattle.basic_toml_read.specs.declared.section.Rows as tables
-use Rattle.basic_toml_read.specs.declared.section.Rows.{roll-Rows}
 use Rattle.basic_toml_read.specs.declared.section.Section as code
 use Rattle.basic_toml_read.specs.SectionView.{Lined, key_of, raw_of, placed_of, lined_of, elements_from, rows_from}
 use Rattle.basic_toml_read.specs.SectionView.{rows_seen, rows_view, section_of}
@@ -71,31 +69,21 @@ known_kept : (parents : List Key) (rs : List ((r : Row) × OfRow r))
     → keyed_within (rows_from parents (map lined_of (map (λ r. r.0) rs))) ≡ true
 known_kept parents rs = rw map-map (lines_kept (λ r. lined_of r.0) (λ r. r.1) parents rs)
 
--- that the parts of a value have keys
-abbrev Parts : Raw-F Raw Element Row tables.Rows → Type 0
-Parts (Raw-F.Array es) = elements_keyed (elements_from (map placed_of es.items)) ≡ true
-Parts (Raw-F.Inline rs) = keyed_within (rows_from [] (map lined_of rs.items)) ≡ true
-Parts (Raw-F.Dotted rs) = OfRows rs.value
-Parts _ = ⊤
-
-raw_kept : (x : Raw-F Raw Element Row tables.Rows) → Parts x → OfRaw (roll-Raw x)
-raw_kept (Raw-F.Array es) parts = search (rules, the_lemmas)
-raw_kept _ parts = search (rules, the_lemmas)
-
 abbrev Known : {A : Type 0} → (A → Type 0) → Type 0
 Known {A = A} P = (x : A) × P x
 
-parts_kept : (y : Raw-F (Known OfRaw) (Known OfElement) (Known OfRow) (Known OfRows))
-    → Parts (map-Raw (Known OfRaw) (Known OfElement) (Known OfRow) (Known OfRows) Raw Element Row tables.Rows
-    (λ e. e.0) (λ e. e.0) (λ e. e.0) (λ e. e.0) y)
-parts_kept (Raw-F.Array es) = elements_kept es.items
-parts_kept (Raw-F.Inline rs) = known_kept [] rs.items
-parts_kept (Raw-F.Dotted rs) = rs.value.1
-parts_kept _ = tt
+-- a value, if its parts have keys
+raw_kept : (y : Raw-F (Known OfRaw) (Known OfElement) (Known OfRow) (Known OfRows))
+    → OfRaw (roll-Raw (map-Raw (Known OfRaw) (Known OfElement) (Known OfRow) (Known OfRows) Raw Element Row tables.Rows
+    (λ e. e.0) (λ e. e.0) (λ e. e.0) (λ e. e.0) y))
+raw_kept (Raw-F.Array es) = let kept = elements_kept es.items in search (rules, the_lemmas)
+raw_kept (Raw-F.Inline rs) = let kept = known_kept [] rs.items in search (rules, the_lemmas)
+raw_kept (Raw-F.Dotted rs) = let kept = rs.value.1 in search (rules, the_lemmas)
+raw_kept _ = search (rules, the_lemmas)
 
 every_raw : (v : Raw) → OfRaw v
 every_raw =
-    ind-Raw OfRaw OfElement OfRow OfRows (λ x y is. raw_kept x (subst Parts is (parts_kept y)))
+    ind-Raw OfRaw OfElement OfRow OfRows (λ x y is. subst (λ z. OfRaw (roll-Raw z)) is (raw_kept y))
     (λ x y is. let kept = subst (λ z. OfRaw z.value) is y.value.1 in search (rules, the_lemmas))
     (λ x y is. let kept = subst (λ z. OfRaw z.value) is y.value.1 in search (rules, the_lemmas))
     (λ x y is. let kept = subst

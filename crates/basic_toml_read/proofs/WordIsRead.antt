@@ -5,7 +5,7 @@ use Rattle.std.specs.Prelude.{position, codes}
 use Rattle.std.specs.Str.{IsUtf8, IsCharBoundary, bytes_eq}
 use Rattle.std.specs.List.{list_all, prefix_len}
 use Rattle.std.proofs.lemmas.Str.{encodes-IsAscii, IsCharBoundary-after_ascii}
-use Rattle.std.proofs.lemmas.Bool.{and_parts, both_ways, cases_Bool, or_from, cases_lt}
+use Rattle.std.proofs.lemmas.Bool.{and_parts, cases_Bool, or_from}
 use Rattle.std.proofs.lemmas.List.{at_drop_more, length-drop, length-take-le}
 use Rattle.std.proofs.Math.Seq.{take-length}
 use Rattle.std.proofs.lemmas.List.Sums.{prefix_len-drop_yes}
@@ -33,10 +33,7 @@ wordlike_test : IsRunTest is_wordlike
 wordlike_test = record { feed = refl; return = refl; wide = λ c d h k. wordlike_wide c h ∙ sym (wordlike_wide d k) }
 
 wordlike_small : (c : ℕ) → is_wordlike c ≡ true → c < 128
-wordlike_small c e = elim (cases_lt c 128) [
-  | inl h ↦ h
-  | inr h ↦ absurd (both_ways (is_wordlike c) (wordlike_wide c h) e)
-]
+wordlike_small c e = grind (arith, nat_tests)
 
 -- a run of characters below U+0080
 pub run_small : (f : ℕ → Bool) → ((c : ℕ) → f c ≡ true → c < 128) → (text : Text) (i : ℕ)
