@@ -15,6 +15,7 @@ use Rattle.basic_toml_read.specs.SectionView.{Lined, key_of, raw_of, placed_of, 
 use Rattle.basic_toml_read.specs.SectionView.{rows_seen, rows_view, section_of}
 use Rattle.basic_toml_read.proofs.NextRow.{lined_is}
 use Rattle.basic_toml_read.proofs.ViewsSeen.{placed_is}
+use Rattle.std.proofs.lemmas.Bool.{and_parts}
 
 abbrev OfRaw : Raw → Type 0
 OfRaw v = value_keyed (raw_of v) ≡ true
@@ -33,22 +34,6 @@ last_is_one : (ks : List Key) (k : Key) → has_key (ks ++ k ∷ []) ≡ true
 last_is_one [] k = refl
 last_is_one (l ∷ ks) k = refl
 
--- each row has a key
-lines_are_keyed : (parents : List Key) (ls : List Lined) → rows_keyed (rows_from parents ls) ≡ true
-lines_are_keyed parents [] = refl
-lines_are_keyed parents (l ∷ ls) = one_more (take l.parents parents) _ (lines_are_keyed (drop l.parents parents) ls)
-  where
-    one_more : (ks : List Key) (rows : Rows) → rows_keyed rows ≡ true
-        → rows_keyed (row (ks ++ l.key ∷ []) l.start l.value rows) ≡ true
-    one_more [] rows others = others
-    one_more (k ∷ ks) rows others = others
-
-pub rows_are_keyed : (parents : List keys.Key) (rows : List Row) → rows_keyed (rows_seen parents rows) ≡ true
-rows_are_keyed parents rows = lines_are_keyed (map key_of parents) (map lined_of rows)
-
-pub are_keyed : (rs : tables.Rows) → rows_keyed (rows_view rs) ≡ true
-are_keyed rs = rows_are_keyed (tables.out-Rows rs).parents.items (tables.out-Rows rs).rows.items
-
 elements_kept : (es : List ((e : Element) × OfElement e))
     → elements_keyed (elements_from (map placed_of (map (λ e. e.0) es))) ≡ true
 elements_kept [] = refl
@@ -58,12 +43,8 @@ lines_kept : {A : Type 0} (line : A → Lined) → ((a : A) → value_keyed (lin
     (rs : List A) → keyed_within (rows_from parents (map line rs)) ≡ true
 lines_kept line kept parents [] = refl
 lines_kept line kept parents (r ∷ rs) =
-    rw (
-      last_is_one (take (line r).parents parents) (line r).key,
-      kept r,
-      lines_kept line kept (drop (line r).parents parents) rs,
-    )
-    refl
+    let more = lines_kept line kept (drop (line r).parents parents) rs in
+    rw (last_is_one (take (line r).parents parents) (line r).key, kept r, more) refl
 
 known_kept : (parents : List Key) (rs : List ((r : Row) × OfRow r))
     → keyed_within (rows_from parents (map lined_of (map (λ r. r.0) rs))) ≡ true
@@ -100,9 +81,23 @@ pub one_has_keys : (ks : List Key) (r : Row)
     → keyed_within (row (ks ++ (lined_of r).key ∷ []) (lined_of r).start (lined_of r).value no_rows) ≡ true
 one_has_keys ks r = rw (last_is_one ks (lined_of r).key, every_row r) refl
 
+within : (parents : List keys.Key) (rows : List Row) → keyed_within (rows_seen parents rows) ≡ true
+within parents rows = lines_kept lined_of every_row (map key_of parents) rows
+
 pub rows_have_keys : (rs : tables.Rows) → keyed_within (rows_view rs) ≡ true
-rows_have_keys rs =
-    lines_kept lined_of every_row (map key_of (tables.out-Rows rs).parents.items) (tables.out-Rows rs).rows.items
+rows_have_keys rs = within (tables.out-Rows rs).parents.items (tables.out-Rows rs).rows.items
+
+-- so each row has a key
+each_has_key : (rs : Rows) → keyed_within rs ≡ true → rows_keyed rs ≡ true
+each_has_key no_rows e = refl
+each_has_key (row [] at v rs) e = cc
+each_has_key (row (k ∷ ks) at v rs) e = each_has_key rs (and_parts (value_keyed v) (keyed_within rs) e).1
+
+pub rows_are_keyed : (parents : List keys.Key) (rows : List Row) → rows_keyed (rows_seen parents rows) ≡ true
+rows_are_keyed parents rows = each_has_key (rows_seen parents rows) (within parents rows)
+
+pub are_keyed : (rs : tables.Rows) → rows_keyed (rows_view rs) ≡ true
+are_keyed rs = each_has_key (rows_view rs) (rows_have_keys rs)
 
 pub sections_have_keys : (ss : List code.Section) → all_keyed_within (map section_of ss) ≡ true
 sections_have_keys [] = refl
