@@ -125,14 +125,10 @@ module _ {bytes : List ℕ} {start level at : ℕ} {old new : Gathered} (s : Ele
               limit = limit';
               boundary = later.boundary;
               forward = omega (arith, s.forward, r.found.later, left.forward, sign.2, later.forward);
-              deep = then_deep (rw later.left (record {
-                leads = λ p d. later_element value_stands r.limit comma d;
-                backs = λ p d. within.past_element value_stands r.limit comma d;
-              })) s.deep;
-              holes = then_in (rw later.left (record {
-                on = λ h at d. HoleInElements.later_element value_stands comma d;
-                same = λ at d. refl;
-              })) s.holes;
+              deep = rw later.left (then_deep (λ p. later_element value_stands r.limit comma)
+                  (λ p. within.past_element value_stands r.limit comma) s.deep);
+              holes = rw later.left
+                  (then_in (λ h at. HoleInElements.later_element value_stands comma) (λ at d. refl) s.holes);
             }
 
         -- where no comma follows

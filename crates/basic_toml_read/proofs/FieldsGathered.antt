@@ -71,14 +71,10 @@ module _ {bytes : List ℕ} {start level at : ℕ} {old new : Gathered} (s : Fie
               ∙ after_one _ _ _ (fields_on_of (after_blanks (text_at bytes next))) (λ rs. refl));
           boundary = later.boundary;
           forward = omega (arith, s.forward, r.later, left.forward, sign.2, later.forward);
-          deep = then_deep (rw later.left (record {
-            leads = λ p d. later_field (row_stands r) r.limit comma d;
-            backs = λ p d. within.past_field (row_stands r) r.limit comma d;
-          })) s.deep;
-          holes = then_in (rw later.left (record {
-            on = λ h at d. HoleInFieldsOn.later_row (row_stands r) comma d;
-            same = λ at d. refl;
-          })) s.holes;
+          deep = rw later.left (then_deep (λ p. later_field (row_stands r) r.limit comma)
+              (λ p. within.past_field (row_stands r) r.limit comma) s.deep);
+          holes = rw later.left
+              (then_in (λ h at. HoleInFieldsOn.later_row (row_stands r) comma) (λ at d. refl) s.holes);
         }
 
     -- where no comma follows

@@ -66,10 +66,7 @@ one_bracket {bytes = bytes} {at = at} {inner = inner} left opens one =
     record {
       is = rw left.left (header_is (text_at bytes at) ∙ then_from _ opens.0 ∙ found_from _ _ none);
       later = omega (arith, opens.2, left.forward);
-      deep = rw left.left (record {
-        leads = λ p d. table bracket d;
-        backs = λ p d. within.table_keys bracket none d;
-      });
+      deep = rw left.left (record { leads = λ p. table bracket; backs = λ p. within.table_keys bracket none });
       key = λ there d. HoleInHeader.table_keys bracket none (rw left.left at d);
       after_keys = λ keys mid ks. HoleInHeader.table_end bracket (rw left.left at ks);
       half_closed = λ e. cc;
@@ -85,10 +82,8 @@ two_brackets {bytes = bytes} {at = at} {inner = inner} {first = first} left open
     record {
       is = rw left.left (header_is (text_at bytes at) ∙ then_from _ opens.0 ∙ found_from _ _ (sign_there two.0));
       later = omega (arith, opens.2, two.2, left.forward);
-      deep = rw left.left (record {
-        leads = λ p d. array_of_tables bracket second d;
-        backs = λ p d. within.array_keys bracket second d;
-      });
+      deep = rw left.left
+          (record { leads = λ p. array_of_tables bracket second; backs = λ p. within.array_keys bracket second });
       key = λ there d. HoleInHeader.array_keys bracket second (rw left.left at d);
       after_keys = λ keys mid ks. HoleInHeader.array_end bracket second (rw left.left at ks);
       half_closed = λ e keys mid last p ks close. HoleInHeader.array_last bracket second (rw left.left at ks) close;

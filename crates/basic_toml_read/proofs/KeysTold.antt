@@ -143,10 +143,8 @@ module _ {bytes : List ℕ} {at first offset level : ℕ} {front : List code_key
           low = omega arith;
           boundary = later.boundary;
           forward = omega (arith, s.forward, key.2, blanks.forward, later.forward, sign.2);
-          deep = then_deep (rw later.left (record {
-            leads = λ p d. later_key high here period d;
-            backs = λ p d. within.past_key high here period d;
-          })) s.deep;
+          deep = rw later.left
+              (then_deep (λ p. later_key high here period) (λ p. within.past_key high here period) s.deep);
           holes = λ there d. s.holes there (HoleInKeys.later_key here period (rw later.left at d));
         }
 

@@ -262,7 +262,7 @@ module _ (bytes : List ℕ) (at : ℕ) (list : List Section) (s : ListSoFar byte
     gaps = λ g. let e = (s.gaps g).0 in cc;
     leads = λ p d. s.leads p (r.leads s.rest s.ends.3 p d);
     backs = λ p d. r.backs s.rest s.ends.3 p (s.backs p d);
-    holes = then_in (r.holes s.rest s.ends.3) s.holes;
+    holes = let on = r.holes s.rest s.ends.3 in then_in on.on on.same s.holes;
   }
 
   -- where none is read, the text stops to be one

@@ -1,7 +1,7 @@
 -- The next of a table's rows, with its parents.
-use Rattle.std.proofs.Common.{◌≡◌, ℕ, ◌+◌, ◌<◌, List, [], ◌∷◌, ◌++◌, drop, take, length, get_or, map, refl, ap, sym}
-use Rattle.std.proofs.Common.{◌∙◌, zero, suc, ◌-◌, ◌≤◌, arith, rules}
-use Rattle.std.proofs.lemmas.List.{drop_more, take_rest, length-drop, take-map, drop-map}
+use Rattle.std.proofs.Common.{◌≡◌, ℕ, ◌+◌, ◌<◌, List, [], ◌∷◌, ◌++◌, drop, take, length, get_or, map, refl, ap, ◌-◌}
+use Rattle.std.proofs.Common.{◌≤◌, arith, rules}
+use Rattle.std.proofs.lemmas.List.{drop_more, take_rest, length-drop, take-map, drop-map, take-append-drop}
 use Rattle.basic_toml_grammar.specs.Sections.{Rows, row}
 use Rattle.basic_toml_read.specs.declared.section.Raw.{the_lemmas}
 use Rattle.basic_toml_read.specs.declared.section.Row.{Row, out-Row}
@@ -9,6 +9,7 @@ use Rattle.basic_toml_read.specs.declared.section.Key as code_keys
 use Rattle.basic_toml_read.specs.KeyText.{key_text_bytes}
 use Rattle.basic_toml_read.specs.SectionView.{key_of, raw_of, lined_of, rows_from}
 use lib.Seq.{take-nil, drop-nil}
+use Rattle.std.proofs.Math.Seq.{drop-append_seam}
 
 pub lined_is : (r : Row) → lined_of r ≡ record {
   key = record { offset = (out-Row r).offset; text = key_text_bytes (out-Row r).key };
@@ -47,12 +48,8 @@ pub parents_left : (n : ℕ) (parents own : List code_keys.Key) → own ≡ take
     → (length (take (length parents - length own) (drop (length own) parents)) ≤ length parents)
     × (drop n parents ≡ take (length parents - length own) (drop (length own) parents))
 parents_left n parents own is =
-    let rest = take_rest parents (length own) in (
+    let rest = take_rest parents (length own) in
+    let seam = drop-append_seam (take n parents) (drop n parents) in (
       omega (arith, ap length rest, length-drop (length own) parents),
-      dropped n parents ∙ ap (λ (m : ℕ). drop m parents) (sym (ap length is)) ∙ sym rest,
+      cc (take-append-drop n parents),
     )
-  where
-    dropped : (n : ℕ) (ks : List code_keys.Key) → drop n ks ≡ drop (length (take n ks)) ks
-    dropped zero ks = refl
-    dropped (suc n) [] = refl
-    dropped (suc n) (k ∷ ks) = dropped n ks

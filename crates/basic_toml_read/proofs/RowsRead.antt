@@ -149,14 +149,8 @@ module _ {bytes : List ℕ} {start level at : ℕ} {old new : Gathered} (s : Row
                   (gap_past_line (text_at bytes at) ∙ (s.gaps g).0),
               (s.gaps g).1,
             );
-            deep = then_deep (rw l.is (record {
-              leads = λ p d. after_empty over d;
-              backs = λ p d. within.past_empty_line over d;
-            })) s.deep;
-            holes = then_in (rw l.is (record {
-              on = λ h at d. HoleInRows.after_empty over d;
-              same = λ at d. refl;
-            })) s.holes;
+            deep = then_deep (λ p. after_empty over) (λ p. within.past_empty_line over) (rw l.is at s.deep);
+            holes = then_in (λ h at. HoleInRows.after_empty over) (λ at d. refl) (rw l.is at s.holes);
           }
 
       module _ (goes_on : line_end_at (text_at bytes at) ≡ None) where
@@ -209,12 +203,10 @@ module _ {bytes : List ℕ} {start level at : ℕ} {old new : Gathered} (s : Row
         }
           where
             holes : LeadsTo (in_row (text_at bytes front) Hole.after_line) (in_rows (text_at bytes start))
-            holes = rw l.blanks.left (then_in (record {
-              on = λ h at d. HoleInRows.this_row
-                  (ap (char_at 91) (sym l.blanks.left) ∙ sign_missing 91 (text_at bytes front) none)
-                  (ap (char_at 35) (sym l.blanks.left) ∙ sign_missing 35 (text_at bytes front) hash) goes_on d;
-              same = λ at d. refl;
-            }) s.holes)
+            holes = rw l.blanks.left (then_in (λ h at. HoleInRows.this_row
+                (ap (char_at 91) (sym l.blanks.left) ∙ sign_missing 91 (text_at bytes front) none)
+                (ap (char_at 35) (sym l.blanks.left) ∙ sign_missing 35 (text_at bytes front) hash) goes_on)
+                (λ at d. refl) s.holes)
 
         -- a row
         module _ {new' : Gathered} {after' : ℕ} (r : IsRowRead bytes front level new new' after') where
@@ -253,10 +245,6 @@ module _ {bytes : List ℕ} {start level at : ℕ} {old new : Gathered} (s : Row
                 boundary = e.1;
                 forward = omega (arith, s.forward, l.blanks.forward, r.later, e.2);
                 gaps = λ g. absurd (rows_no_gap g);
-                deep = then_deep (record {
-                  leads = λ p d. later_row stands r.limit over d;
-                  backs = λ p d. within.past_row stands r.limit over d;
-                }) s.deep;
-                holes = then_in (record { on = λ h at d. HoleInRows.later_row stands over d; same = λ at d. refl })
-                    s.holes;
+                deep = then_deep (λ p. later_row stands r.limit over) (λ p. within.past_row stands r.limit over) s.deep;
+                holes = then_in (λ h at. HoleInRows.later_row stands over) (λ at d. refl) s.holes;
               }

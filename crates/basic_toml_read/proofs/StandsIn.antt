@@ -44,9 +44,9 @@ pub record SameDeep (Inner Outer : ℕ → Type 0) : Type 0 where
 pub same_deep : {Deep : ℕ → Type 0} → SameDeep Deep Deep
 same_deep = record { leads = λ p d. d; backs = λ p d. d }
 
-pub then_deep : {First Second Third : ℕ → Type 0} → SameDeep First Second → SameDeep Second Third
-    → SameDeep First Third
-then_deep f g = record { leads = λ p d. g.leads p (f.leads p d); backs = λ p d. f.backs p (g.backs p d) }
+pub then_deep : {First Second Third : ℕ → Type 0} → ((p : ℕ) → First p → Second p) → ((p : ℕ) → Second p → First p)
+    → SameDeep Second Third → SameDeep First Third
+then_deep f b g = record { leads = λ p d. g.leads p (f p d); backs = λ p d. b p (g.backs p d) }
 
 -- a stop in a part is one in the whole, which goes on as the part does where nothing is found there
 pub at_deep : {A : Type 0} {Inner Outer : ℕ → Type 0} {o : Option A} (w : Why) (at : ℕ) (High : A → Type 0)
@@ -60,10 +60,12 @@ at_deep _ at High m f g d = λ p e. d p (g m p e)
 pub stays_in : {holes : Holes} → LeadsTo holes holes
 stays_in = record { on = λ h at d. d; same = λ at d. refl }
 
-pub then_in : {first second third : Holes} → LeadsTo first second → LeadsTo second third → LeadsTo first third
-then_in f g = record {
-  on = λ h at d. g.on h at (f.on h at d);
-  same = λ at d. g.same at (f.on Hole.value at d) ∙ f.same at d;
+pub then_in : {first second third : Holes} (on : (h : Hole) (at : Text) → first.HoleIn h at → second.HoleIn h at)
+    → ((at : Text) (d : first.HoleIn Hole.value at) → second.behind at (on Hole.value at d) ≡ first.behind at d)
+    → LeadsTo second third → LeadsTo first third
+then_in f same g = record {
+  on = λ h at d. g.on h at (f h at d);
+  same = λ at d. g.same at (f Hole.value at d) ∙ same at d;
 }
 
 -- at a text that is the same

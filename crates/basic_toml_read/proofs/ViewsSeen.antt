@@ -23,10 +23,7 @@ placed_is e = search (rules, the_lemmas)
 
 -- lines after others
 pub lines_assoc : (a b c : Lines) → and_lines (and_lines a b) c ≡ and_lines a (and_lines b c)
-lines_assoc a b c =
-    let parents = append_assoc a.parents b.parents c.parents in
-    let rows = append_assoc a.rows b.rows c.rows in
-    cc
+lines_assoc a b c = simp append_assoc
 
 pub lines_none : (a : Lines) → and_lines a no_lines ≡ a
 lines_none a = rw (append-nil a.parents, append-nil a.rows) refl

@@ -72,10 +72,9 @@ elements-returns-in_err-valued t c =
     let e = c.in_err-valued.ensures in
     rw (is_err c.from_residual.ensures.1) (stop_in_whole _ _ _ _ _ e
     (elements_missing i c.in_default.ensures _ e.read) (λ p d. i.deep.leads p (this_element d))
-    (λ none p d. its_value none (i.deep.backs p d)) (then_in (record {
-      on = λ h at d. HoleInElements.in_element (sign_missing 93 (text_at bytes c.loop-end.at) c.in_default.ensures) d;
-      same = λ at d. refl;
-    }) i.holes))
+    (λ none p d. its_value none (i.deep.backs p d)) (then_in
+    (λ h at. HoleInElements.in_element (sign_missing 93 (text_at bytes c.loop-end.at) c.in_default.ensures))
+    (λ at d. refl) i.holes))
 
 pub elements-returns-in_default-after_punctuation : goal.elements-returns-in_default-after_punctuation
 elements-returns-in_default-after_punctuation t c =
@@ -121,7 +120,7 @@ fields-returns-in_err-row t c =
     let e = c.in_err-row.ensures in
     rw (is_err c.from_residual.ensures.1) (stop_in_whole _ _ _ _ _ e (fields_missing i _ e.read)
     (λ p d. i.deep.leads p (this_field d)) (λ none p d. its_row none (i.deep.backs p d))
-    (then_in (record { on = λ h at d. HoleInFieldsOn.in_row d; same = λ at d. refl }) i.holes))
+    (then_in (λ h at. HoleInFieldsOn.in_row) (λ at d. refl) i.holes))
 
 pub fields-returns-in_default-after_punctuation : goal.fields-returns-in_default-after_punctuation
 fields-returns-in_default-after_punctuation t c =

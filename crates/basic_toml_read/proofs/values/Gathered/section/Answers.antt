@@ -19,7 +19,8 @@ returns-in_err-header c =
       inside = e.inside;
       deep = λ line same. at_deep stop.why stop.at _ e.read (λ p d. this_section (header (rw same at d)))
           (λ none p d. rw same (its_header (ap header_of (sym same) ∙ none) d)) e.deep;
-      hole = λ line same some. stops_on {outer = in_sections line} (then_in (moved_in in_header same)
+      hole = λ line same some. let moved = moved_in in_header same in
+          stops_on {outer = in_sections line} (then_in moved.on moved.same
           (record { on = λ h at d. HoleInSections.in_header d; same = λ at d. refl })) stop.why
           (text_at c.args.text.now stop.at) (e.hole some);
     })
