@@ -1,11 +1,8 @@
 -- Strings and words as values: a scalar has no level, and where neither stands, a value is wanted.
 use Rattle.std.proofs.Common.{◌≡◌, ℕ, List, [], ◌∷◌, refl, ap, sym, ◌∙◌, arith, Option, Some, None, Result, Ok, Err}
 use Rattle.std.proofs.Common.{IfErr, ℤ, Bool, true, false, cond, encode_utf8_all}
-use Rattle.std.specs.Prelude.{codes}
-use Rattle.std.specs.Str.{bytes_eq}
 use Rattle.std.specs.Option.{option_or}
 use Rattle.basic_toml_value.specs.Nesting.{nesting_limit}
-use Rattle.basic_toml_numbers.specs.Numbers.{integer_of, float_of}
 use Rattle.basic_toml_tokens.specs.Text.{Text, text_at, run}
 use Rattle.basic_toml_grammar.specs.Copies.{up_to, needs_copy}
 use Rattle.basic_toml_grammar.specs.DeepStops.{DeepValue, array, inline}
@@ -39,25 +36,17 @@ string_level l text v e =
     let there : Raw.string (encode_utf8_all s.value) (needs_copy s.multiline (up_to s.rest text)) ≡ v.value = cc in
     sym (ap (value_level l) there)
 
+value_of_word : (l : ℕ) (a b : Bool) (z : Option ℤ) (t : Option (List ℕ)) (w : Raw)
+    → cond a (Some (Raw.boolean true)) (cond b (Some (Raw.boolean false)) (number_value z t)) ≡ Some w
+    → value_level l w ≡ 0
+value_of_word l a b z t w e = grind (arith, e)
+
 word_level : (l : ℕ) (text : Text) (v : reader.Valued) → word_at text ≡ Some v → value_level l v.value ≡ 0
 word_level l [] v e = cc
 word_level l (x ∷ text) v e =
     let (w, w_is, f) = then_some (word_value (run is_wordlike (x ∷ text))) _ v e in
     let there : w ≡ v.value = cc in
-    sym (ap (value_level l) there)
-    ∙ go (bytes_eq word (codes "true")) (bytes_eq word (codes "false")) (integer_of word) (float_of word) w w_is
-  where
-    word : List ℕ
-    word = run is_wordlike (x ∷ text)
-
-    go : (a b : Bool) (z : Option ℤ) (t : Option (List ℕ)) (w : Raw)
-        → cond a (Some (Raw.boolean true)) (cond b (Some (Raw.boolean false)) (number_value z t)) ≡ Some w
-        → value_level l w ≡ 0
-    go true b z t w e = let there : Raw.boolean true ≡ w = cc in sym (ap (value_level l) there)
-    go false true z t w e = let there : Raw.boolean false ≡ w = cc in sym (ap (value_level l) there)
-    go false false (Some z) t w e = let there : Raw.integer z ≡ w = cc in sym (ap (value_level l) there)
-    go false false None (Some t) w e = let there : Raw.float t ≡ w = cc in sym (ap (value_level l) there)
-    go false false None None w e = cc
+    sym (ap (value_level l) there) ∙ value_of_word l _ _ _ _ w w_is
 
 -- where no bracket stands
 module _ (bytes : List ℕ) (at level : ℕ) (end : End) (old : Gathered) (bracket : char_at 91 (text_at bytes at) ≡ None)

@@ -1,11 +1,11 @@
 -- Words as values, against the grammar.
-use Rattle.std.proofs.Common.{inl, inr, ◌≡◌, ℕ, zero, suc, ◌+◌, ◌<◌, ◌≤◌, ◌==◌, Bool, true, false, List, ℤ, ◌-◌, []}
-use Rattle.std.proofs.Common.{◌∷◌, length, take, drop, get_or, refl, ap, sym, ◌∙◌, arith, Option, Some, None}
+use Rattle.std.proofs.Common.{◌≡◌, ℕ, zero, suc, ◌+◌, ◌<◌, ◌≤◌, ◌==◌, Bool, true, false, List, ℤ, ◌-◌, [], ◌∷◌, length}
+use Rattle.std.proofs.Common.{take, drop, get_or, refl, ap, sym, ◌∙◌, arith, Option, Some, None}
 use Rattle.std.specs.Prelude.{position, codes}
 use Rattle.std.specs.Str.{IsUtf8, IsCharBoundary, bytes_eq}
 use Rattle.std.specs.List.{list_all, prefix_len}
 use Rattle.std.proofs.lemmas.Str.{encodes-IsAscii, IsCharBoundary-after_ascii}
-use Rattle.std.proofs.lemmas.Bool.{and_parts, cases_Bool, or_from}
+use Rattle.std.proofs.lemmas.Bool.{and_parts, or_from}
 use Rattle.std.proofs.lemmas.List.{at_drop_more, length-drop, length-take-le}
 use Rattle.std.proofs.Math.Seq.{take-length}
 use Rattle.std.proofs.lemmas.List.Sums.{prefix_len-drop_yes}
@@ -39,10 +39,8 @@ wordlike_small c e = grind (arith, nat_tests)
 pub run_small : (f : ℕ → Bool) → ((c : ℕ) → f c ≡ true → c < 128) → (text : Text) (i : ℕ)
     → get_or (run f text) i 0 < 128
 run_small f small [] i = omega arith
-run_small f small (x ∷ text) zero =
-    elim (cases_Bool (f x.1)) [ inl e ↦ rw e (small x.1 e) | inr e ↦ rw e (omega arith) ]
-run_small f small (x ∷ text) (suc i) =
-    elim (cases_Bool (f x.1)) [ inl e ↦ rw e (run_small f small text i) | inr e ↦ rw e (omega arith) ]
+run_small f small (x ∷ text) zero = grind (arith, small x.1)
+run_small f small (x ∷ text) (suc i) = grind (arith, run_small f small text i)
 
 -- the bytes of a word, which is not empty
 pub word_run : (bytes : List ℕ) (at end : ℕ) → IsUtf8 bytes → IsCharBoundary bytes at
