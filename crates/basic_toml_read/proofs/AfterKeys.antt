@@ -1,6 +1,6 @@
 -- A row after its keys: what is read of it, what is too deep in its value, and the holes of its value.
 use Rattle.std.proofs.Common.{◌≡◌, ◌≤◌, ◌+◌, ◌-◌, ℕ, suc, List, [], ◌∷◌, ◌++◌, length, refl, ap, sym, ◌∙◌, arith, inr}
-use Rattle.std.proofs.Common.{length-append, Some, None, ◌<◌, subst, Option, Vec, Global}
+use Rattle.std.proofs.Common.{length-append, Some, None, ◌<◌, Option, Vec, Global}
 use Rattle.std.proofs.lemmas.List.{length-map}
 use Rattle.basic_toml_value.specs.Nesting.{nesting_limit}
 use Rattle.basic_toml_tokens.specs.Text.{Text, text_at, after_blanks}
@@ -9,7 +9,7 @@ use Rattle.basic_toml_grammar.specs.Sections.{Key}
 use Rattle.basic_toml_grammar.specs.Grammar.{IsKeys}
 use Rattle.basic_toml_grammar.specs.DeepStops.{DeepRow, DeepValue, value}
 use Rattle.basic_toml_grammar.specs.Holes.{Hole, HoleInRow}
-use Rattle.basic_toml_grammar.specs.Reader.{char_at, if_found, string_at, word_at, string_value_at}
+use Rattle.basic_toml_grammar.specs.Reader.{char_at}
 use Rattle.basic_toml_grammar.specs.Entering.{and_then}
 use Rattle.basic_toml_grammar.specs.Levels.{value_level}
 use Rattle.basic_toml_grammar.specs.Reader as reader
@@ -29,7 +29,6 @@ use Rattle.basic_toml_read.specs.SectionView.{key_of}
 use Rattle.basic_toml_read.specs.StopsAt.{Misses}
 use Rattle.basic_toml_grammar.proofs.Grammar.ReaderIsSound.{keys_read}
 use Rattle.basic_toml_grammar.proofs.Nesting.WithinTheLimit as within
-use Rattle.basic_toml_grammar.proofs.Grammar.StringsAreRead.{then_some}
 use Rattle.basic_toml_read.proofs.StandsIn.{StopIn, nothing_fits, stop_in_whole}
 use Rattle.basic_toml_read.proofs.LeftAfter.{sign_missing, sign_there}
 use Rattle.basic_toml_read.proofs.EnoughSteps.{row_is}
@@ -51,11 +50,7 @@ pub keys_missed : (level : ℕ) (text : Text) (w : Why)
     → Misses w (row_of text) (λ r. nesting_limit < row_level level r)
 keys_missed level text w m =
     misses_on w (keys_of text) _ _ _ (row_is text)
-    (λ keys y f h. let (s, s_is, g) = then_some (char_at 61 (after_blanks keys.1)) _ y f in
-    let (v, v_is, same) = then_some (value_of (after_blanks s.1)) _ y g in
-    let there : record { keys = keys.0; offset = v.offset; value = v.value; rest = v.rest } ≡ y = cc in
-    subst (λ r. nesting_limit < row_level level r) there (omega arith))
-    m
+    (λ keys y f h. grind (arith, f, h)) m
 
 -- a row
 abbrev row_of_value : LastKey → ℕ → Valued → Row
@@ -125,9 +120,7 @@ module _ {bytes : List ℕ} {at level : ℕ} {old new : Gathered} {last : LastKe
         rw left.left (record { on = λ h at d. HoleInRow.in_value keys_stand equals d; same = λ at d. refl }) in
         stop_in_whole _ _ _ _ stop e
         (misses_on stop.why (value_of (text_at bytes start)) _ _ _ row_by_value
-        (λ v y f h. let same : assigned all_keys v ≡ y = cc in
-        rw (← same) (omega (arith, h, ap (λ n. value_level n v.value) level_of_last)))
-        e.read)
+        (λ v y f h. grind (arith, f, h, level_of_last)) e.read)
         (λ p d. value keys_stand keys_within equals (rw (left.left, ← level_of_last) at d))
         (λ none p d. rw (left.left, ← level_of_last) (within.past_equals keys_stand keys_within equals d)) on
 

@@ -1,5 +1,5 @@
 -- A reading that goes on from what it finds: what it finds then, and what is missing.
-use Rattle.std.proofs.Common.{◌≡◌, ℕ, refl, ap, sym, ◌∙◌, subst, Option, Some, None}
+use Rattle.std.proofs.Common.{◌≡◌, ℕ, refl, ap, sym, ◌∙◌, subst, Option, Some, None, arith}
 use Rattle.basic_toml_tokens.specs.Text.{Text}
 use Rattle.basic_toml_grammar.specs.Entering.{and_then}
 use Rattle.basic_toml_grammar.specs.Reader.{if_found}
@@ -90,5 +90,4 @@ pub first_of : {A : Type 0} (o o' : Option (ℕ × Text)) (more : ℕ × Text �
     (and_then o' (λ s. Some (one none, s.1))) ≡ Some r
     → (others : A) × (one others ≡ r.0)
 first_of (Some s) o' more one none r e = let (q, q_is, same) = then_some (more s) _ r e in (q.0, cc)
-first_of None (Some s) more one none r e = (none, cc)
-first_of None None more one none r e = cc
+first_of None o' more one none r e = (none, grind (arith, e))

@@ -116,8 +116,7 @@ module _ {bytes : List ℕ} {at start : ℕ} {is_array : Bool} (b : Opened bytes
       keys_kept : (a : Bool) (keys : List Key) (rest : Text) (h : reader.Headed) → ending at a keys rest ≡ Some h
           → keys ≡ h.keys
       keys_kept false keys rest h e = cc
-      keys_kept true keys rest h e =
-          let (last, last_is, same) = then_some (char_at 93 rest) _ h e in cc
+      keys_kept true keys rest h e = grind (arith, e)
 
   module _ {found : HeaderKeys} (k : AreHeaderKeys bytes start found) where
     by_keys : header_of (text_at bytes at)

@@ -1,6 +1,6 @@
 -- Arrays and inline tables as values, by what stands in their brackets.
 use Rattle.std.proofs.Common.{◌≡◌, ℕ, ◌+◌, ◌<◌, ◌≤◌, List, ◌++◌, length, drop, take, refl, ◌∙◌, arith, Some, None}
-use Rattle.std.proofs.Common.{Option, Result, Ok, Err, subst}
+use Rattle.std.proofs.Common.{Option, Result, Ok, Err}
 use Rattle.std.proofs.Math.Seq.{drop-append_seam, take-append_seam}
 use Rattle.std.specs.Str.{IsCharBoundary}
 use Rattle.basic_toml_value.specs.Nesting.{nesting_limit}
@@ -9,7 +9,6 @@ use Rattle.basic_toml_tokens.specs.Punctuation.{IsPunctuationEnd}
 use Rattle.basic_toml_grammar.specs.Sections.{Raw}
 use Rattle.basic_toml_grammar.specs.Levels.{value_level}
 use Rattle.basic_toml_grammar.specs.Entering.{and_then}
-use Rattle.basic_toml_grammar.specs.Reader as reader
 use Rattle.basic_toml_grammar.specs.DeepStops.{DeepArray, DeepInline, DeepValue, array, inline}
 use Rattle.basic_toml_grammar.specs.Holes.{Hole, HoleInValue}
 use Rattle.basic_toml_explain.specs.declared.stop.Stop.{Stop}
@@ -52,9 +51,7 @@ module _ (bytes : List ℕ) (at level : ℕ) {A : Type 0} (make : A → Raw) (o 
       → Misses w (value_of (text_at bytes at)) (λ v. nesting_limit < value_level level v.value)
   none_made w High high m =
       misses_on w o _ _ _ is
-      (λ r v f h. let same : record { offset = at; value = make r.0; rest = r.1 } ≡ v = cc in
-      subst (λ (v : reader.Valued). nesting_limit < value_level level v.value) same (high r.0 h))
-      m
+      (λ r v f h. grind (arith, high r.0 h)) m
 
 module _ (bytes : List ℕ) (at next level : ℕ) (end : Hole) (old new : Gathered) where
   abbrev pub ValueAnswered : Result Valued Stop → Type 0

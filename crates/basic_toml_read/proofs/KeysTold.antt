@@ -30,7 +30,7 @@ use Rattle.basic_toml_grammar.proofs.Grammar.ReaderIsComplete.{key_found}
 use Rattle.basic_toml_read.proofs.StandsIn.{SameDeep, same_deep, then_deep}
 use Rattle.basic_toml_grammar.proofs.Nesting.WithinTheLimit as within
 use Rattle.basic_toml_read.proofs.EnoughSteps.{keys_is}
-use Rattle.basic_toml_read.proofs.GoesOn.{after, after_from, after_none, after_one, first_of, found_from, then_from}
+use Rattle.basic_toml_read.proofs.GoesOn.{after, after_from, after_none, after_one, found_from, then_from}
 use Rattle.basic_toml_read.proofs.LeftAfter.{sign_there, sign_missing}
 
 -- what the keys are where the first of them is read
@@ -80,9 +80,7 @@ no_key_deep none (later_key h k s d) = let z : None ≡ Some _ = sym none ∙ ke
 
 some_keys : (text : Text) (keys : List Key × Text) → keys_of text ≡ Some keys → 0 < length keys.0
 some_keys text keys e =
-    let (k, k_is, f) = then_some (key_at text) _ keys (sym (keys_is text) ∙ e) in
-    let (more, there) = first_of (char_at 46 (after_blanks k.1)) (Some (0, k.1)) _ (λ ks. k.0 ∷ ks) [] keys f in
-    omega (arith, ap length there)
+    let (k, k_is, f) = then_some (key_at text) _ keys (sym (keys_is text) ∙ e) in grind (arith, f)
 
 module _ {bytes : List ℕ} {at first offset level : ℕ} {front : List code_keys.Key}
     (s : KeysTold bytes at first offset level front) where

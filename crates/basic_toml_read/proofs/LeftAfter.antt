@@ -1,8 +1,8 @@
 -- What is left of a text after blanks, comments, gaps and words.
-use Rattle.std.proofs.Common.{inl, inr, ◌≡◌, ℕ, ◌==◌, ◌||◌, true, false, cond, List, [], ◌∷◌, refl, ap, sym, ◌∙◌, arith}
-use Rattle.std.proofs.Common.{Option, Some, None, is_some, eqb-true}
+use Rattle.std.proofs.Common.{inl, ◌≡◌, ℕ, ◌==◌, true, cond, List, [], ◌∷◌, refl, ap, sym, ◌∙◌, arith, Option, Some}
+use Rattle.std.proofs.Common.{None, is_some, eqb-true}
 use Rattle.std.proofs.lemmas.Bool.Decides.{nat_tests}
-use Rattle.std.proofs.lemmas.Bool.{cases_Bool, eq-eqb, or_from}
+use Rattle.std.proofs.lemmas.Bool.{eq-eqb, or_from}
 use Rattle.basic_toml_tokens.specs.Text.{Text, StartsWith, text_at, run, after_run, is_blank, is_keylike, is_comment}
 use Rattle.basic_toml_tokens.specs.Text.{after_blanks}
 use Rattle.basic_toml_tokens.specs.Strings.{is_quote}
@@ -38,30 +38,17 @@ line_goes_on bytes at None some e = no_end (text_at bytes at) e some
 -- gaps
 pub gap_past_blanks : (text : Text) → after_gap is_comment (after_blanks text) ≡ after_gap is_comment text
 gap_past_blanks [] = refl
-gap_past_blanks (x ∷ text) =
-    elim (cases_Bool (is_blank x.1)) [ inl e ↦ rw e (gap_past_blanks text) | inr e ↦ rw (e, e) refl ]
-
--- what a comment does not hold ends it, and is no gap but for a line feed
-not_comment : (c : ℕ) → is_comment c ≡ false → (c == 10) ≡ false → ((is_blank c || c == 10) ≡ false)
-    × ((c == 35) ≡ false)
-not_comment c e f = (grind (arith, nat_tests, or_from), grind (arith, nat_tests))
+gap_past_blanks (x ∷ text) = grind (arith, gap_past_blanks text)
 
 in_comment : (text : Text) → after_gap_from is_comment true text ≡ after_gap is_comment (after_run is_comment text)
 in_comment [] = refl
-in_comment (x ∷ text) =
-    elim (cases_Bool (x.1 == 10)) [
-      | inl e ↦ rw (eqb-true x.1 10 e) refl
-      | inr e ↦ elim (cases_Bool (is_comment x.1)) [
-        | inl f ↦ rw (e, f) (in_comment text)
-        | inr f ↦ (let no = not_comment x.1 f e in rw (e, f, no.0, no.1) refl)
-      ]
-    ]
+in_comment (x ∷ text) = grind (arith, nat_tests, or_from, in_comment text)
 
 pub gap_past_comment : (text : Text)
     → after_gap is_comment (after_comment_by is_comment text) ≡ after_gap is_comment text
 gap_past_comment [] = refl
 gap_past_comment (x ∷ text) =
-    elim (cases_Bool (x.1 == 35)) [ inl e ↦ rw (eqb-true x.1 35 e) (sym (in_comment text)) | inr e ↦ rw (e, e) refl ]
+    grind (arith, in_comment text, eqb-true x.1 35)
 
 abbrev pub line_of : Text → Text
 line_of text = after_comment_by is_comment (after_blanks text)
@@ -73,10 +60,9 @@ gap_past_line text = gap_past_comment (after_blanks text) ∙ gap_past_blanks te
 pub gap_stands : (text : Text) → after_blanks text ≡ text → after_run (λ c. c == 10) text ≡ text
     → after_run (λ c. c == 35) text ≡ text → after_gap is_comment text ≡ text
 gap_stands [] a b c = refl
-gap_stands (x ∷ text) a b c = rw (
-  or_from (is_blank x.1) (x.1 == 10) (fails_first is_blank x text a) (fails_first (λ d. d == 10) x text b),
-  fails_first (λ d. d == 35) x text c,
-) refl
+gap_stands (x ∷ text) a b c =
+    let no_feed = fails_first (λ d. d == 10) x text b in
+    grind (arith, fails_first is_blank x text a, fails_first (λ d. d == 35) x text c)
 
 -- nor does it go on where no line feed stands after a comment
 pub gap_stops : (text : Text) → after_run (λ c. c == 10) (line_of text) ≡ line_of text
@@ -86,17 +72,13 @@ gap_stops text e = go (after_blanks text) (after_twice is_blank text) e
     after : (t : Text) → after_run is_comment t ≡ t → after_run (λ c. c == 10) t ≡ t → after_gap is_comment t ≡ t
     after [] h k = refl
     after (x ∷ t) h k =
-        let no = not_comment x.1 (fails_first is_comment x t h) (fails_first (λ c. c == 10) x t k) in
-        rw (no.0, no.1) refl
+        grind (arith, nat_tests, or_from, fails_first is_comment x t h, fails_first (λ c. c == 10) x t k)
 
     go : (t : Text) → after_blanks t ≡ t
         → after_run (λ c. c == 10) (after_comment_by is_comment t) ≡ after_comment_by is_comment t
         → after_gap is_comment (after_comment_by is_comment t) ≡ after_comment_by is_comment t
     go [] h k = refl
-    go (x ∷ t) h k = elim (cases_Bool (x.1 == 35)) [
-      | inl f ↦ rw f (after (after_run is_comment t) (after_twice is_comment t) (rw f at k))
-      | inr f ↦ rw f (gap_stands (x ∷ t) h (rw f at k) (rw f refl))
-    ]
+    go (x ∷ t) h k = grind (arith, after (after_run is_comment t) (after_twice is_comment t), gap_stands (x ∷ t) h)
 
 -- over a line feed
 pub gap_past_feed : {p : ℕ} {text next : Text} → StartsWith 10 text p next
@@ -108,9 +90,8 @@ pub no_joint : (text : Text) → after_run (λ x. x == 46) text ≡ text → aft
     → after_run is_keylike text ≡ text → after_run is_wordlike text ≡ text
 no_joint [] a b k = refl
 no_joint (x ∷ text) a b k =
-    rw (or_from (is_keylike x.1) (x.1 == 43 || x.1 == 46) (fails_first is_keylike x text k)
-    (or_from (x.1 == 43) (x.1 == 46) (fails_first (λ x. x == 43) x text b) (fails_first (λ x. x == 46) x text a)))
-    refl
+    let no_period = fails_first (λ x. x == 46) x text a in
+    grind (arith, fails_first is_keylike x text k, fails_first (λ x. x == 43) x text b)
 
 pub joint_there : (bytes : List ℕ) (at : ℕ) (o : Option ℕ)
     → after_run (λ x. x == 46) (text_at bytes at) ≡ text_at bytes at → IsPunctuationEnd 43 bytes at o
@@ -123,9 +104,7 @@ pub no_string : (text : Text) → after_run (λ x. x == 34) text ≡ text → af
     → string_at text ≡ None
 no_string [] a b = refl
 no_string (x ∷ text) a b =
-    let e : is_quote x.1 ≡ false =
-    or_from (x.1 == 34) (x.1 == 39) (fails_first (λ x. x == 34) x text a) (fails_first (λ x. x == 39) x text b) in
-    rw e refl
+    grind (arith, fails_first (λ x. x == 34) x text a, fails_first (λ x. x == 39) x text b)
 
 pub string_begins : (bytes : List ℕ) (at : ℕ) (o : Option ℕ)
     → after_run (λ x. x == 34) (text_at bytes at) ≡ text_at bytes at → IsPunctuationEnd 39 bytes at o
@@ -138,19 +117,11 @@ string_begins bytes at (Some next) a s =
 pub gap_over : (text next : Text) → end_of text ≡ Some next → after_gap is_comment text ≡ []
     → after_gap is_comment next ≡ []
 gap_over [] next e gap = let same : [] ≡ next = cc in ap (after_gap is_comment) (sym same)
-gap_over (x ∷ text) next e gap =
-    elim (cases_Bool (x.1 == 10)) [
-      | inl k ↦ (let there = rw k at e in
-          let same : text ≡ next = cc in
-          let s : StartsWith 10 (x ∷ text) x.0 text = ap (λ (c : ℕ). (x.0, c) ∷ text) (eqb-true x.1 10 k) in
-          ap (after_gap is_comment) (sym same) ∙ gap_past_feed s ∙ gap)
-      | inr k ↦ (let there = rw k at e in cc)
-    ]
+gap_over (x ∷ text) next e gap = grind (arith, eqb-true x.1 10)
 
 no_feed_there : (text : Text) → end_of text ≡ None → after_run (λ c. c == 10) text ≡ text
 no_feed_there [] e = cc
-no_feed_there (x ∷ text) e =
-    elim (cases_Bool (x.1 == 10)) [ inl k ↦ (let there = rw k at e in cc) | inr k ↦ rw k refl ]
+no_feed_there (x ∷ text) e = grind (arith, e)
 
 pub gap_ends_line : (text : Text) → end_of (line_of text) ≡ None → after_gap is_comment text ≡ [] → ⊥
 gap_ends_line text e gap =

@@ -110,9 +110,7 @@ module _ (bytes : List ℕ) {start : ℕ} (start_is : start ≡ start_of bytes) 
   root_stops old mid stop e = record {
     missed = misses_on stop.why (rows_of (text_at bytes start)) _ _ _ list_by
         (λ rows y f h. let (headed, headed_is, same) = then_some (sections_of rows.1) _ y f in
-        let there : with_root rows.0 headed ≡ y = cc in
-        let onto = ap highest_level (sym (root_onto rows.0 headed) ∙ there) in
-        omega (arith, onto, highest_onto (with_root rows.0 []) headed, (root_level rows.0).0))
+        grind (arith, root_onto rows.0 headed, highest_onto (with_root rows.0 []) headed, (root_level rows.0).0))
         e.read;
     inside = e.inside;
     more = λ g. let passed = (e.gaps (rw start_is g)).0 in cc;
@@ -197,10 +195,7 @@ module _ {bytes : List ℕ} {at : ℕ} {h : Header} (read : IsHeaderRead bytes a
         → RowsAnswered bytes line (length h.keys + 1) old mid (Err stop) → SectionStops bytes at stop
     rows_stop old mid stop e = record {
       read = misses_on stop.why (rows_of (text_at bytes line)) _ _ _ by_rows
-          (λ rows y g high. let (more, more_is, same) = then_some (sections_of rows.1) _ y g in
-          let first : made rows.0 ∷ more ≡ y = cc in
-          omega (arith, high, ap highest_level first, ap (λ n. rows_level (n + 1) rows.0) level_here))
-          e.read;
+          (λ rows y g high. grind (arith, g, high, level_here)) e.read;
       inside = e.inside;
       deep = λ text same. at_deep stop.why stop.at _ e.read
           (λ p (d : DeepRows nesting_limit (length h.keys + 1) (text_at bytes line) p).
@@ -270,9 +265,7 @@ module _ (bytes : List ℕ) (at : ℕ) (list : List Section) (s : ListSoFar byte
   unfolding onto
   list_stops stop e = record {
     missed = misses_on stop.why (and_then (header_of (text_at bytes at)) sections_from) _ _ _ list_from
-        (λ headed y f high. let joined : list ++ headed ≡ y = cc in
-        omega (arith, high, ap highest_level joined, highest_onto list headed))
-        e.read;
+        (λ headed y f high. grind (arith, f, high, highest_onto list headed)) e.read;
     inside = e.inside;
     more = λ g. let none = (s.gaps g).0 in cc;
     deep = at_deep stop.why stop.at _ e.read s.leads (λ none. s.backs) (e.deep s.rest s.ends.3);

@@ -2,7 +2,6 @@
 use Rattle.std.proofs.Common.{inl, inr, ◌≡◌, ℕ, Bool, List, [], ◌∷◌, length, refl, ap, sym, ◌∙◌, arith, encode_utf8_all}
 use Rattle.std.proofs.Common.{Option, Some, None, Result, Ok, Err}
 use Rattle.std.specs.Str.{IsUtf8, IsCharBoundary}
-use Rattle.std.proofs.lemmas.Bool.{cases_Bool}
 use Rattle.std.proofs.lemmas.List.{nil_from_length}
 use Rattle.std.proofs.lemmas.Str.{encodes-IsAscii}
 use Rattle.basic_toml_tokens.specs.declared.error.Error.{Error}
@@ -20,7 +19,7 @@ use Rattle.basic_toml_tokens.proofs.TokenIsUnique.{no_break}
 use Rattle.basic_toml_grammar.specs.Sections as sections
 use Rattle.basic_toml_grammar.specs.Entering.{and_then}
 use Rattle.basic_toml_grammar.specs.Reader as reader
-use Rattle.basic_toml_grammar.specs.Reader.{string_at, bare_key_at, quoted_key, key_at, string_value_at, word_at}
+use Rattle.basic_toml_grammar.specs.Reader.{string_at, bare_key_at, quoted_key, key_at, string_value_at}
 use Rattle.basic_toml_explain.specs.declared.stop.Stop.{Stop}
 use Rattle.basic_toml_explain.specs.declared.stop.Why.{Why}
 use Rattle.basic_toml_explain.specs.declared.stop.Why.TheVariants.{Memory}
@@ -49,10 +48,7 @@ bare_found : (text : Text) (p : ℕ) → ((x : ℕ × ℕ) (t : Text) → text �
     → key_at text ≡ Some (record { offset = p; text = run is_keylike text }, after_run is_keylike text)
 bare_found [] p offset some = absurd (some refl)
 bare_found (x ∷ text) p offset some =
-    elim (cases_Bool (is_keylike x.1)) [
-      | inl e ↦ rw (e, offset x text refl) refl
-      | inr e ↦ absurd (some (rw e refl))
-    ]
+    grind (arith, offset x text refl, some)
 
 pub bare_key : (bytes : List ℕ) (at end : ℕ) (key : KeyText) → IsRun is_keylike bytes at end → (at ≡ end → ⊥)
     → key_text_bytes key ≡ between bytes at end
@@ -72,7 +68,7 @@ bare_key bytes at end key r some e =
 no_bare_key : (text : Text) → run is_keylike text ≡ [] → bare_key_at text ≡ None
 no_bare_key [] e = refl
 no_bare_key (x ∷ text) e =
-    elim (cases_Bool (is_keylike x.1)) [ inl h ↦ (let there = rw h at e in cc) | inr h ↦ rw h refl ]
+    grind (arith, e)
 
 pub key_by_string : (text : Text) (o : Option reader.Quoted) → run is_keylike text ≡ [] → string_at text ≡ o
     → key_at text ≡ and_then o quoted_key
