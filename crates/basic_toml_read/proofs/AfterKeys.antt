@@ -1,34 +1,17 @@
 -- A row after its keys: what is read of it, what is too deep in its value, and the holes of its value.
-use Rattle.std.proofs.Common.{◌≡◌, ◌≤◌, ◌+◌, ◌-◌, ℕ, suc, List, [], ◌∷◌, ◌++◌, length, refl, ap, sym, ◌∙◌, arith, inr}
-use Rattle.std.proofs.Common.{length-append, Some, None, ◌<◌, Option, Vec, Global}
-use Rattle.std.proofs.lemmas.List.{length-map}
-use Rattle.basic_toml_value.specs.Nesting.{nesting_limit}
-use Rattle.basic_toml_tokens.specs.Text.{Text, text_at, after_blanks}
-use Rattle.basic_toml_tokens.specs.Punctuation.{IsPunctuationEnd}
-use Rattle.basic_toml_grammar.specs.Sections.{Key}
-use Rattle.basic_toml_grammar.specs.Grammar.{IsKeys}
-use Rattle.basic_toml_grammar.specs.DeepStops.{DeepRow, DeepValue, value}
-use Rattle.basic_toml_grammar.specs.Holes.{Hole, HoleInRow}
-use Rattle.basic_toml_grammar.specs.Reader.{char_at}
-use Rattle.basic_toml_grammar.specs.Entering.{and_then}
-use Rattle.basic_toml_grammar.specs.Levels.{value_level}
+use Rattle.basic_toml_read.proofs.Common.{◌≡◌, ◌≤◌, ◌+◌, ◌-◌, ℕ, suc, List, [], ◌∷◌, ◌++◌, length, refl, ap, sym, ◌∙◌}
+use Rattle.basic_toml_read.proofs.Common.{arith, inr, length-append, Some, None, ◌<◌, Option, Vec, Global, length-map}
+use Rattle.basic_toml_read.proofs.Common.{nesting_limit, Text, text_at, after_blanks, IsPunctuationEnd, Key, IsKeys}
+use Rattle.basic_toml_read.proofs.Common.{DeepRow, DeepValue, Hole, HoleInRow, char_at, and_then, value_level, Stop}
+use Rattle.basic_toml_read.proofs.Common.{Why, Gathered, Leaves, keys_of, value_of, row_of, Lines, row_level, IsRowRead}
+use Rattle.basic_toml_read.proofs.Common.{IsValueRead, key_text_bytes, LeadsTo, in_value, in_row, Row, roll-Row, Valued}
+use Rattle.basic_toml_read.proofs.Common.{key_of, Misses, keys_read}
 use Rattle.basic_toml_grammar.specs.Reader as reader
-use Rattle.basic_toml_explain.specs.declared.stop.Why.TheVariants.{Equals}
-use Rattle.basic_toml_explain.specs.declared.stop.Stop.{Stop}
-use Rattle.basic_toml_explain.specs.declared.stop.Why.{Why}
-use Rattle.basic_toml_read.specs.declared.values.Gathered.{Gathered}
-use Rattle.basic_toml_read.specs.declared.values.LastKey.{LastKey}
-use Rattle.basic_toml_read.specs.AtPlace.{Leaves}
-use Rattle.basic_toml_read.specs.FrontOf.{keys_of, value_of, row_of}
-use Rattle.basic_toml_read.specs.Gathers.{IsLastKey, Lines, row_level, IsRowRead, IsValueRead}
-use Rattle.basic_toml_read.specs.KeyText.{key_text_bytes}
-use Rattle.basic_toml_read.specs.StopsReached.{LeadsTo, in_value, in_row}
-use Rattle.basic_toml_read.specs.declared.section.Row.{Row, roll-Row}
-use Rattle.basic_toml_read.specs.declared.scalar.Valued.{Valued}
-use Rattle.basic_toml_read.specs.SectionView.{key_of}
-use Rattle.basic_toml_read.specs.StopsAt.{Misses}
-use Rattle.basic_toml_grammar.proofs.Grammar.ReaderIsSound.{keys_read}
 use Rattle.basic_toml_grammar.proofs.Nesting.WithinTheLimit as within
+use Rattle.basic_toml_grammar.specs.DeepStops.{value}
+use Rattle.basic_toml_explain.specs.declared.stop.Why.TheVariants.{Equals}
+use Rattle.basic_toml_read.specs.declared.values.LastKey.{LastKey}
+use Rattle.basic_toml_read.specs.Gathers.{IsLastKey}
 use Rattle.basic_toml_read.proofs.StandsIn.{StopIn, nothing_fits, stop_in_whole}
 use Rattle.basic_toml_read.proofs.LeftAfter.{sign_missing, sign_there}
 use Rattle.basic_toml_read.proofs.EnoughSteps.{row_is}

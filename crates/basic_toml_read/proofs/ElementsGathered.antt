@@ -1,34 +1,20 @@
 -- The elements of an array, one by one.
-use Rattle.std.proofs.Common.{◌+◌, ◌*◌, length, inr, ◌≡◌, ℕ, ◌<◌, ◌≤◌, List, [], ◌∷◌, ◌++◌, max, refl, ap, sym, ◌∙◌}
-use Rattle.std.proofs.Common.{arith, append_assoc, Some, None, Result, Ok, Err, Vec, Global}
-use Rattle.std.specs.Str.{IsCharBoundary}
-use Rattle.basic_toml_value.specs.Nesting.{nesting_limit}
-use Rattle.basic_toml_tokens.specs.Text.{StartsWith, text_at, is_comment}
-use Rattle.basic_toml_tokens.specs.Punctuation.{IsPunctuationEnd}
-use Rattle.basic_toml_grammar.specs.Sections.{Elements, no_elements, element}
-use Rattle.basic_toml_grammar.specs.Entering.{and_then}
-use Rattle.basic_toml_grammar.specs.Levels.{value_level, elements_level}
-use Rattle.basic_toml_grammar.specs.Reader.{char_at}
-use Rattle.basic_toml_grammar.specs.DeepStops.{DeepElements, later_element}
-use Rattle.basic_toml_explain.specs.declared.stop.Stop.{Stop}
-use Rattle.basic_toml_explain.specs.declared.stop.Why.{Why}
+use Rattle.basic_toml_read.proofs.Common.{◌+◌, ◌*◌, length, inr, ◌≡◌, ℕ, ◌<◌, ◌≤◌, List, [], ◌∷◌, ◌++◌, max, refl, ap}
+use Rattle.basic_toml_read.proofs.Common.{sym, ◌∙◌, arith, append_assoc, Some, None, Result, Ok, Err, Vec, Global}
+use Rattle.basic_toml_read.proofs.Common.{IsCharBoundary, nesting_limit, StartsWith, text_at, is_comment}
+use Rattle.basic_toml_read.proofs.Common.{IsPunctuationEnd, Elements, no_elements, element, and_then, value_level}
+use Rattle.basic_toml_read.proofs.Common.{char_at, DeepElements, Stop, Why, Element, Valued, Gathered, value_of}
+use Rattle.basic_toml_read.proofs.Common.{elements_of, Leaves, elements_view, Misses, lines_of, IsValueRead, ClosesAt}
+use Rattle.basic_toml_read.proofs.Common.{LeadsTo, in_elements, gap, value_read, Hole, HoleInElements}
 use Rattle.basic_toml_explain.specs.declared.stop.Why.TheVariants as why
-use Rattle.basic_toml_read.specs.declared.section.Element.{Element, roll-Element}
-use Rattle.basic_toml_read.specs.declared.scalar.Valued.{Valued}
-use Rattle.basic_toml_read.specs.declared.values.Gathered.{Gathered}
-use Rattle.basic_toml_read.specs.FrontOf.{value_of, elements_of}
-use Rattle.basic_toml_read.specs.AtPlace.{Leaves}
-use Rattle.basic_toml_read.specs.SectionView.{elements_view}
-use Rattle.basic_toml_read.specs.StopsAt.{Misses}
-use Rattle.basic_toml_read.specs.Gathers.{lines_of, IsValueRead, ClosesAt, ReadsElements}
-use Rattle.basic_toml_read.specs.StopsReached.{LeadsTo, in_elements}
-use Rattle.basic_toml_grammar.proofs.Grammar.ReaderIsComplete.{gap}
+use Rattle.basic_toml_grammar.proofs.Nesting.WithinTheLimit as within
+use Rattle.basic_toml_grammar.specs.Levels.{elements_level}
+use Rattle.basic_toml_grammar.specs.DeepStops.{later_element}
+use Rattle.basic_toml_read.specs.declared.section.Element.{roll-Element}
+use Rattle.basic_toml_read.specs.Gathers.{ReadsElements}
 use Rattle.basic_toml_read.proofs.StandsIn.{Answered, nothing_fits, SameDeep, then_deep, stops_on, then_in}
 use Rattle.basic_toml_read.proofs.StandsIn.{without_stop}
-use Rattle.basic_toml_grammar.proofs.Nesting.WithinTheLimit as within
-use Rattle.basic_toml_grammar.proofs.Grammar.ReaderIsSound.{value_read}
 use Rattle.basic_toml_grammar.specs.Grammar.{IsValue}
-use Rattle.basic_toml_grammar.specs.Holes.{Hole, HoleInElements}
 use Rattle.basic_toml_read.proofs.EnoughSteps.{after_value, elements_is}
 use Rattle.basic_toml_read.proofs.GoesOn.{after, after_from, after_one, first_of, found_from, misses_after, then_from}
 use Rattle.basic_toml_read.proofs.LeftAfter.{sign_there, sign_missing}

@@ -1,29 +1,24 @@
 -- What stands at the front of a text does not depend on the bound on the steps, where it is large enough. So it is told
 -- by what stands at the front of shorter texts.
-use Rattle.std.proofs.Common.{◌≡◌, ℕ, suc, ◌+◌, ◌*◌, ◌<◌, ◌≤◌, true, false, [], ◌∷◌, length, refl, ap, ◌∙◌, arith, List}
-use Rattle.std.proofs.Common.{Option, Some, add-one, add-suc}
-use Rattle.std.specs.Option.{option_or}
-use Rattle.basic_toml_tokens.specs.Text.{Text, after_blanks}
-use Rattle.basic_toml_grammar.specs.Sections.{Key, Raw, Elements, Rows, no_elements, element, no_rows, row}
-use Rattle.basic_toml_grammar.specs.Entering.{and_then}
-use Rattle.basic_toml_grammar.specs.Grammar.{with_root}
-use Rattle.basic_toml_grammar.specs.Reader.{char_at, key_at, if_found, keys_at, Valued, Assigned, word_at}
-use Rattle.basic_toml_grammar.specs.Reader.{string_value_at, value_at, elements_at, fields_at, fields_on_at, row_at}
-use Rattle.basic_toml_grammar.specs.Reader.{line_end_at, rows_at, header_at, sections_at, section_list_of}
-use Rattle.basic_toml_read.specs.FrontOf.{keys_of, value_of, elements_of, fields_of, fields_on_of, row_of, rows_of}
-use Rattle.basic_toml_read.specs.FrontOf.{header_of, sections_of}
+use Rattle.basic_toml_read.proofs.Common.{◌≡◌, ℕ, suc, ◌+◌, ◌*◌, ◌<◌, ◌≤◌, true, false, [], ◌∷◌, length, refl, ap, ◌∙◌}
+use Rattle.basic_toml_read.proofs.Common.{arith, List, Option, Some, option_or, Text, after_blanks, Key, Raw, Elements}
+use Rattle.basic_toml_read.proofs.Common.{Rows, no_elements, element, no_rows, row, and_then, with_root, char_at}
+use Rattle.basic_toml_read.proofs.Common.{key_at, if_found, Assigned, word_at, string_value_at, line_end_at}
+use Rattle.basic_toml_read.proofs.Common.{section_list_of, keys_of, value_of, elements_of, fields_of, fields_on_of}
+use Rattle.basic_toml_read.proofs.Common.{row_of, rows_of, header_of, sections_of, sign_read, key_read, keys_read}
+use Rattle.basic_toml_read.proofs.Common.{value_read, row_read, line_end_read, rows_read, header_read, gap, value_found}
+use Rattle.basic_toml_read.proofs.Common.{row_found, rows_found, header_found, sections_from}
+use Rattle.std.proofs.Common.{add-one, add-suc}
+use Rattle.basic_toml_grammar.specs.Reader.{keys_at, Valued, value_at, elements_at, fields_at, fields_on_at, row_at}
+use Rattle.basic_toml_grammar.specs.Reader.{rows_at, header_at, sections_at}
 use Rattle.basic_toml_grammar.proofs.Grammar.StringsAreRead.{sign_length}
-use Rattle.basic_toml_grammar.proofs.Grammar.ReaderIsSound.{sign_read, key_read, keys_read, value_read, row_read}
-use Rattle.basic_toml_grammar.proofs.Grammar.ReaderIsSound.{line_end_read, rows_read, header_read, elements_read}
-use Rattle.basic_toml_grammar.proofs.Grammar.ReaderIsSound.{fields_on_read, sections_read}
+use Rattle.basic_toml_grammar.proofs.Grammar.ReaderIsSound.{elements_read, fields_on_read, sections_read}
 use Rattle.basic_toml_grammar.proofs.Grammar.ReaderIsComplete.{key_shorter, keys_shorter, blanks_length}
-use Rattle.basic_toml_grammar.proofs.Grammar.ReaderIsComplete.{shorter_after_blanks, gap, gap_length, shorter_after_gap}
+use Rattle.basic_toml_grammar.proofs.Grammar.ReaderIsComplete.{shorter_after_blanks, gap_length, shorter_after_gap}
 use Rattle.basic_toml_grammar.proofs.Grammar.ReaderIsComplete.{value_shorter, row_shorter, ends_shorter, line_shorter}
-use Rattle.basic_toml_grammar.proofs.Grammar.ReaderIsComplete.{value_found, row_found, rows_found, header_found}
 use Rattle.basic_toml_grammar.proofs.Grammar.ReaderIsComplete.{header_shorter, rows_shorter, elements_found}
 use Rattle.basic_toml_grammar.proofs.Grammar.ReaderIsComplete.{fields_on_found, sections_found}
 use Rattle.basic_toml_read.proofs.GoesOn.{then_alike, found_alike, same_found, then_from}
-use Rattle.basic_toml_read.specs.Lists.{sections_from}
 
 sign_shorter : (c : ℕ) (text : Text) (s : ℕ × Text) → char_at c text ≡ Some s → length text ≡ suc (length s.1)
 sign_shorter c text s e = sign_length (sign_read c text s e)

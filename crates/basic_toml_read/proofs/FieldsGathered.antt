@@ -1,27 +1,17 @@
 -- The rows of an inline table, one by one.
-use Rattle.std.proofs.Common.{inr, ◌≡◌, ℕ, ◌<◌, ◌≤◌, List, refl, ap, sym, ◌∙◌, arith, Some, None, Result, Ok, Err}
-use Rattle.std.specs.Str.{IsCharBoundary}
-use Rattle.basic_toml_value.specs.Nesting.{nesting_limit}
-use Rattle.basic_toml_tokens.specs.Text.{StartsWith, text_at, after_blanks}
-use Rattle.basic_toml_tokens.specs.Punctuation.{IsPunctuationEnd}
-use Rattle.basic_toml_grammar.specs.Sections.{no_rows}
-use Rattle.basic_toml_grammar.specs.Entering.{and_then}
-use Rattle.basic_toml_grammar.specs.Levels.{rows_level}
-use Rattle.basic_toml_grammar.specs.Reader.{char_at}
-use Rattle.basic_toml_grammar.specs.DeepStops.{DeepFields, later_field}
-use Rattle.basic_toml_explain.specs.declared.stop.Stop.{Stop}
-use Rattle.basic_toml_explain.specs.declared.stop.Why.{Why}
+use Rattle.basic_toml_read.proofs.Common.{inr, ◌≡◌, ℕ, ◌<◌, ◌≤◌, List, refl, ap, sym, ◌∙◌, arith, Some, None, Result}
+use Rattle.basic_toml_read.proofs.Common.{Ok, Err, IsCharBoundary, nesting_limit, StartsWith, text_at, after_blanks}
+use Rattle.basic_toml_read.proofs.Common.{IsPunctuationEnd, no_rows, and_then, rows_level, char_at, DeepFields, Stop}
+use Rattle.basic_toml_read.proofs.Common.{Why, Gathered, fields_of, fields_on_of, row_of, Leaves, Misses, Lines}
+use Rattle.basic_toml_read.proofs.Common.{and_lines, row_level, IsRowRead, ClosesAt, LeadsTo, in_fields, Hole}
+use Rattle.basic_toml_read.proofs.Common.{HoleInFieldsOn}
 use Rattle.basic_toml_explain.specs.declared.stop.Why.TheVariants as why
-use Rattle.basic_toml_read.specs.declared.values.Gathered.{Gathered}
-use Rattle.basic_toml_read.specs.FrontOf.{fields_of, fields_on_of, row_of}
-use Rattle.basic_toml_read.specs.AtPlace.{Leaves}
-use Rattle.basic_toml_read.specs.StopsAt.{Misses}
-use Rattle.basic_toml_read.specs.Gathers.{Lines, and_lines, row_level, IsRowRead, ClosesAt, ReadsFields}
-use Rattle.basic_toml_read.specs.StopsReached.{LeadsTo, in_fields, in_fields_on}
+use Rattle.basic_toml_grammar.proofs.Nesting.WithinTheLimit as within
+use Rattle.basic_toml_grammar.specs.DeepStops.{later_field}
+use Rattle.basic_toml_read.specs.Gathers.{ReadsFields}
+use Rattle.basic_toml_read.specs.StopsReached.{in_fields_on}
 use Rattle.basic_toml_read.proofs.StandsIn.{Answered, nothing_fits, without_stop, SameDeep, then_deep, stops_on}
 use Rattle.basic_toml_read.proofs.StandsIn.{then_in}
-use Rattle.basic_toml_grammar.proofs.Nesting.WithinTheLimit as within
-use Rattle.basic_toml_grammar.specs.Holes.{Hole, HoleInFieldsOn}
 use Rattle.basic_toml_read.proofs.EnoughSteps.{after_field, fields_on_is}
 use Rattle.basic_toml_read.proofs.GoesOn.{after, after_from, after_one, first_of, found_from, misses_after, then_from}
 use Rattle.basic_toml_read.proofs.LeftAfter.{sign_there, sign_missing}

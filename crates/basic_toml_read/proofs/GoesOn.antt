@@ -1,12 +1,6 @@
 -- A reading that goes on from what it finds: what it finds then, and what is missing.
-use Rattle.std.proofs.Common.{◌≡◌, ℕ, refl, ap, sym, ◌∙◌, subst, Option, Some, None, arith}
-use Rattle.basic_toml_tokens.specs.Text.{Text}
-use Rattle.basic_toml_grammar.specs.Entering.{and_then}
-use Rattle.basic_toml_grammar.specs.Reader.{if_found}
-use Rattle.basic_toml_explain.specs.declared.stop.Why.{Why}
-use Rattle.basic_toml_explain.specs.declared.stop.Why.TheVariants.{Memory, Deep}
-use Rattle.basic_toml_read.specs.StopsAt.{Misses}
-use Rattle.basic_toml_grammar.proofs.Grammar.StringsAreRead.{then_some}
+use Rattle.basic_toml_read.proofs.Common.{◌≡◌, ℕ, refl, ap, sym, ◌∙◌, subst, Option, Some, None, arith, Text, and_then}
+use Rattle.basic_toml_read.proofs.Common.{if_found, Why, Memory, Deep, Misses, then_some}
 
 -- to go on from the same finding, or to take another way where nothing is found
 pub then_from : {A B : Type 0} {o o' : Option A} (f : A → Option B) → o ≡ o' → and_then o f ≡ and_then o' f

@@ -1,31 +1,17 @@
 -- Headers: their keys, and their brackets.
-use Rattle.std.proofs.Common.{inr, Err, ◌≡◌, ℕ, ◌<◌, Bool, true, false, List, refl, ◌∙◌, arith, Option, Some, None, Ok}
-use Rattle.std.proofs.Common.{◌+◌, length, map, ap, sym, eqb-true}
-use Rattle.std.proofs.lemmas.List.{length-map}
-use Rattle.basic_toml_value.specs.Nesting.{nesting_limit}
-use Rattle.basic_toml_tokens.specs.Text.{Text, StartsWith, after_blanks, text_at}
-use Rattle.basic_toml_tokens.specs.Punctuation.{IsPunctuationEnd}
-use Rattle.basic_toml_grammar.specs.Sections.{Key}
-use Rattle.basic_toml_grammar.specs.Entering.{and_then}
-use Rattle.basic_toml_grammar.specs.Grammar.{IsKeys}
-use Rattle.basic_toml_grammar.specs.DeepStops.{DeepKeys, DeepHeader, table, array_of_tables}
-use Rattle.basic_toml_grammar.specs.Holes.{Hole, HoleInKeys, HoleInHeader}
+use Rattle.basic_toml_read.proofs.Common.{inr, Err, ◌≡◌, ℕ, ◌<◌, Bool, true, false, List, refl, ◌∙◌, arith, Option}
+use Rattle.basic_toml_read.proofs.Common.{Some, None, Ok, ◌+◌, length, map, ap, sym, eqb-true, length-map}
+use Rattle.basic_toml_read.proofs.Common.{nesting_limit, Text, StartsWith, after_blanks, text_at, IsPunctuationEnd, Key}
+use Rattle.basic_toml_read.proofs.Common.{and_then, IsKeys, DeepKeys, DeepHeader, Hole, HoleInKeys, char_at}
+use Rattle.basic_toml_read.proofs.Common.{StopsInside, Stop, Newline, AtDeep, in_header, Leaves, keys_of, header_of}
+use Rattle.basic_toml_read.proofs.Common.{ClosesAt, key_of, Misses, sign_read, then_some}
 use Rattle.basic_toml_grammar.specs.Reader as reader
-use Rattle.basic_toml_grammar.specs.Reader.{char_at}
-use Rattle.basic_toml_explain.specs.Stop.{StopsInside}
-use Rattle.basic_toml_explain.specs.declared.stop.Stop.{Stop}
-use Rattle.basic_toml_explain.specs.declared.stop.Why.TheVariants.{Newline}
 use Rattle.basic_toml_explain.specs.declared.stop.Why.TheVariants as why
-use Rattle.basic_toml_read.specs.Lists.{HeaderKeys, AreHeaderKeys}
-use Rattle.basic_toml_read.specs.StopsReached.{AtDeep, InHeaderHole, in_header}
-use Rattle.basic_toml_read.specs.AtPlace.{Leaves}
-use Rattle.basic_toml_read.specs.FrontOf.{keys_of, header_of}
-use Rattle.basic_toml_read.specs.Gathers.{ClosesAt}
-use Rattle.basic_toml_read.specs.SectionView.{key_of}
-use Rattle.basic_toml_read.specs.StopsAt.{Misses}
-use Rattle.basic_toml_grammar.proofs.Grammar.ReaderIsSound.{sign_read}
 use Rattle.basic_toml_grammar.proofs.Nesting.WithinTheLimit as within
-use Rattle.basic_toml_grammar.proofs.Grammar.StringsAreRead.{then_some}
+use Rattle.basic_toml_grammar.specs.DeepStops.{table, array_of_tables}
+use Rattle.basic_toml_grammar.specs.Holes.{HoleInHeader}
+use Rattle.basic_toml_read.specs.Lists.{HeaderKeys, AreHeaderKeys}
+use Rattle.basic_toml_read.specs.StopsReached.{InHeaderHole}
 use Rattle.basic_toml_grammar.proofs.Nesting.WithinTheLimit.{keys_within}
 use Rattle.basic_toml_read.proofs.StandsIn.{at_deep, key_stops_on, SameDeep, nothing_fits}
 use Rattle.basic_toml_read.proofs.EnoughSteps.{header_is}

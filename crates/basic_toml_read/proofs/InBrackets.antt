@@ -1,27 +1,13 @@
 -- Arrays and inline tables as values, by what stands in their brackets.
-use Rattle.std.proofs.Common.{◌≡◌, ℕ, ◌+◌, ◌<◌, ◌≤◌, List, ◌++◌, length, drop, take, refl, ◌∙◌, arith, Some, None}
-use Rattle.std.proofs.Common.{Option, Result, Ok, Err}
-use Rattle.std.proofs.Math.Seq.{drop-append_seam, take-append_seam}
-use Rattle.std.specs.Str.{IsCharBoundary}
-use Rattle.basic_toml_value.specs.Nesting.{nesting_limit}
-use Rattle.basic_toml_tokens.specs.Text.{Text, text_at, after_blanks}
-use Rattle.basic_toml_tokens.specs.Punctuation.{IsPunctuationEnd}
-use Rattle.basic_toml_grammar.specs.Sections.{Raw}
-use Rattle.basic_toml_grammar.specs.Levels.{value_level}
-use Rattle.basic_toml_grammar.specs.Entering.{and_then}
-use Rattle.basic_toml_grammar.specs.DeepStops.{DeepArray, DeepInline, DeepValue, array, inline}
-use Rattle.basic_toml_grammar.specs.Holes.{Hole, HoleInValue}
-use Rattle.basic_toml_explain.specs.declared.stop.Stop.{Stop}
-use Rattle.basic_toml_explain.specs.declared.stop.Why.{Why}
-use Rattle.basic_toml_read.specs.declared.scalar.Valued.{Valued}
-use Rattle.basic_toml_read.specs.declared.values.Gathered.{Gathered}
-use Rattle.basic_toml_read.specs.FrontOf.{elements_of, fields_of, value_of}
-use Rattle.basic_toml_read.specs.SectionView.{raw_of}
-use Rattle.basic_toml_read.specs.Gathers.{IsValueRead, Keeps, ReadsValue, ReadsArray, ReadsInline}
-use Rattle.basic_toml_read.specs.StopsAt.{Misses}
-use Rattle.basic_toml_read.specs.StopsReached.{in_value, in_elements, in_fields}
-use Rattle.basic_toml_grammar.proofs.Grammar.ReaderIsComplete.{gap}
+use Rattle.basic_toml_read.proofs.Common.{◌≡◌, ℕ, ◌+◌, ◌<◌, ◌≤◌, List, ◌++◌, length, drop, take, refl, ◌∙◌, arith, Some}
+use Rattle.basic_toml_read.proofs.Common.{None, Option, Result, Ok, Err, drop-append_seam, take-append_seam}
+use Rattle.basic_toml_read.proofs.Common.{IsCharBoundary, nesting_limit, Text, text_at, after_blanks, IsPunctuationEnd}
+use Rattle.basic_toml_read.proofs.Common.{Raw, value_level, and_then, DeepArray, DeepInline, DeepValue, array, inline}
+use Rattle.basic_toml_read.proofs.Common.{Hole, HoleInValue, Stop, Why, Valued, Gathered, elements_of, fields_of}
+use Rattle.basic_toml_read.proofs.Common.{value_of, raw_of, IsValueRead, ReadsValue, Misses, in_value, in_elements}
+use Rattle.basic_toml_read.proofs.Common.{in_fields, gap}
 use Rattle.basic_toml_grammar.proofs.Nesting.WithinTheLimit as within
+use Rattle.basic_toml_read.specs.Gathers.{Keeps, ReadsArray, ReadsInline}
 use Rattle.basic_toml_read.proofs.EnoughSteps.{value_is}
 use Rattle.basic_toml_read.proofs.LeftAfter.{sign_there, sign_missing}
 use Rattle.basic_toml_read.proofs.GoesOn.{found_from, misses_on, then_from}

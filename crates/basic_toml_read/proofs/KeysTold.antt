@@ -1,34 +1,17 @@
 -- Keys one after another, up to an offset; and those of a row, as they are gathered.
-use Rattle.std.proofs.Common.{refl, inr, ◌≡◌, ℕ, ◌+◌, ◌-◌, ◌<◌, ◌≤◌, List, [], ◌∷◌, ◌++◌, length, ap, sym, ◌∙◌, arith}
-use Rattle.std.proofs.Common.{append_assoc, length-append, Option, Some, None, Ok, Err, map}
-use Rattle.std.specs.Str.{IsCharBoundary}
-use Rattle.std.proofs.lemmas.List.{length-map, map-append}
-use Rattle.basic_toml_value.specs.Nesting.{nesting_limit}
-use Rattle.basic_toml_tokens.specs.Text.{Text, StartsWith, text_at, after_blanks}
-use Rattle.basic_toml_tokens.specs.Punctuation.{IsPunctuationEnd}
-use Rattle.basic_toml_grammar.specs.Sections.{Key}
-use Rattle.basic_toml_grammar.specs.Entering.{and_then}
-use Rattle.basic_toml_grammar.specs.Reader.{char_at, key_at, if_found}
-use Rattle.basic_toml_grammar.specs.DeepStops.{DeepKeys, this_key, later_key}
-use Rattle.basic_toml_grammar.specs.Holes.{Hole, HoleInKeys}
-use Rattle.basic_toml_explain.specs.declared.stop.Stop.{Stop}
-use Rattle.basic_toml_explain.specs.declared.stop.Why.{Why}
-use Rattle.basic_toml_explain.specs.declared.stop.Why.TheVariants.{Memory, Deep}
+use Rattle.basic_toml_read.proofs.Common.{refl, inr, ◌≡◌, ℕ, ◌+◌, ◌-◌, ◌<◌, ◌≤◌, List, [], ◌∷◌, ◌++◌, length, ap, sym}
+use Rattle.basic_toml_read.proofs.Common.{◌∙◌, arith, append_assoc, length-append, Option, Some, None, Ok, Err, map}
+use Rattle.basic_toml_read.proofs.Common.{IsCharBoundary, length-map, map-append, nesting_limit, Text, StartsWith}
+use Rattle.basic_toml_read.proofs.Common.{text_at, after_blanks, IsPunctuationEnd, Key, and_then, char_at, key_at}
+use Rattle.basic_toml_read.proofs.Common.{if_found, DeepKeys, Hole, HoleInKeys, Stop, Why, Memory, Deep, StopsInside}
+use Rattle.basic_toml_read.proofs.Common.{Keyed, keys_of, Leaves, Misses, MissesKey, ReadsKeyAt, AtDeep, StopsAtKey}
+use Rattle.basic_toml_read.proofs.Common.{Gathered, key_of, then_some, key_read}
 use Rattle.basic_toml_explain.specs.declared.stop.Why.TheVariants as why
-use Rattle.basic_toml_explain.specs.Stop.{StopsInside}
-use Rattle.basic_toml_read.specs.declared.scalar.Keyed.{Keyed}
-use Rattle.basic_toml_read.specs.FrontOf.{keys_of}
-use Rattle.basic_toml_read.specs.AtPlace.{Leaves}
-use Rattle.basic_toml_read.specs.StopsAt.{Misses, MissesKey, ReadsKeyAt}
-use Rattle.basic_toml_read.specs.StopsReached.{AtDeep, StopsAtKey}
 use Rattle.basic_toml_read.specs.declared.section.Key as code_keys
-use Rattle.basic_toml_read.specs.declared.values.Gathered.{Gathered}
-use Rattle.basic_toml_read.specs.SectionView.{key_of}
-use Rattle.basic_toml_grammar.proofs.Grammar.StringsAreRead.{then_some}
-use Rattle.basic_toml_grammar.proofs.Grammar.ReaderIsSound.{key_read}
+use Rattle.basic_toml_grammar.proofs.Nesting.WithinTheLimit as within
+use Rattle.basic_toml_grammar.specs.DeepStops.{this_key, later_key}
 use Rattle.basic_toml_grammar.proofs.Grammar.ReaderIsComplete.{key_found}
 use Rattle.basic_toml_read.proofs.StandsIn.{SameDeep, same_deep, then_deep}
-use Rattle.basic_toml_grammar.proofs.Nesting.WithinTheLimit as within
 use Rattle.basic_toml_read.proofs.EnoughSteps.{keys_is}
 use Rattle.basic_toml_read.proofs.GoesOn.{after, after_from, after_none, after_one, found_from, then_from}
 use Rattle.basic_toml_read.proofs.LeftAfter.{sign_there, sign_missing}

@@ -1,17 +1,15 @@
 -- What is left of a text after blanks, comments, gaps and words.
-use Rattle.std.proofs.Common.{inl, ◌≡◌, ℕ, ◌==◌, true, cond, List, [], ◌∷◌, refl, ap, sym, ◌∙◌, arith, Option, Some}
-use Rattle.std.proofs.Common.{None, is_some, eqb-true}
-use Rattle.std.proofs.lemmas.Bool.Decides.{nat_tests}
-use Rattle.std.proofs.lemmas.Bool.{eq-eqb, or_from}
-use Rattle.basic_toml_tokens.specs.Text.{Text, StartsWith, text_at, run, after_run, is_blank, is_keylike, is_comment}
-use Rattle.basic_toml_tokens.specs.Text.{after_blanks}
+use Rattle.basic_toml_read.proofs.Common.{inl, ◌≡◌, ℕ, ◌==◌, true, cond, List, [], ◌∷◌, refl, ap, sym, ◌∙◌, arith}
+use Rattle.basic_toml_read.proofs.Common.{Option, Some, None, is_some, eqb-true, nat_tests, or_from, Text, StartsWith}
+use Rattle.basic_toml_read.proofs.Common.{text_at, run, after_run, is_blank, is_keylike, is_comment, after_blanks}
+use Rattle.basic_toml_read.proofs.Common.{IsPunctuationEnd, after_twice, is_wordlike, after_comment_by, after_gap}
+use Rattle.basic_toml_read.proofs.Common.{char_at, string_at, word_at, end_of, EndsAt, IsJoint}
+use Rattle.std.proofs.lemmas.Bool.{eq-eqb}
 use Rattle.basic_toml_tokens.specs.Strings.{is_quote}
-use Rattle.basic_toml_tokens.specs.Punctuation.{IsPunctuationEnd}
 use Rattle.basic_toml_tokens.specs.Quote.{IsFeed}
-use Rattle.basic_toml_tokens.proofs.SpacesAreRuns.{after_twice, fails_first}
-use Rattle.basic_toml_grammar.specs.Grammar.{is_wordlike, after_comment_by, after_gap_from, after_gap}
-use Rattle.basic_toml_grammar.specs.Reader.{char_at, string_at, word_at, end_of}
-use Rattle.basic_toml_read.specs.AtPlace.{EndsAt, BeginsString, IsJoint}
+use Rattle.basic_toml_tokens.proofs.SpacesAreRuns.{fails_first}
+use Rattle.basic_toml_grammar.specs.Grammar.{after_gap_from}
+use Rattle.basic_toml_read.specs.AtPlace.{BeginsString}
 
 -- a character at the front, and another one
 pub sign_there : {c p : ℕ} {text rest : Text} → StartsWith c text p rest → char_at c text ≡ Some (p, rest)

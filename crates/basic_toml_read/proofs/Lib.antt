@@ -1,3 +1,4 @@
+pub mod Common
 pub mod WordIsRead
 pub mod ViewsSeen
 pub mod NextRow

@@ -1,15 +1,8 @@
 -- Rows one after another, and the lines that stand for them.
-use Rattle.std.proofs.Common.{◌+◌, ◌*◌, length, ◌≡◌, ℕ, ◌≤◌, List, max, refl, ap, sym, ◌∙◌, arith}
-use Rattle.basic_toml_value.specs.Nesting.{nesting_limit}
-use Rattle.basic_toml_tokens.specs.Text.{text_at, is_comment}
-use Rattle.basic_toml_grammar.specs.Grammar.{IsRow}
-use Rattle.basic_toml_grammar.proofs.Grammar.ReaderIsSound.{row_read}
-use Rattle.basic_toml_read.specs.FrontOf.{row_of}
-use Rattle.basic_toml_grammar.specs.Sections.{Rows, no_rows, row}
-use Rattle.basic_toml_grammar.specs.Levels.{rows_level}
-use Rattle.basic_toml_grammar.specs.Reader.{Assigned}
-use Rattle.basic_toml_read.specs.declared.values.Gathered.{Gathered}
-use Rattle.basic_toml_read.specs.Gathers.{Lines, no_lines, and_lines, lines_of, lines_view, IsRowRead}
+use Rattle.basic_toml_read.proofs.Common.{◌+◌, ◌*◌, length, ◌≡◌, ℕ, ◌≤◌, List, max, refl, ap, sym, ◌∙◌, arith}
+use Rattle.basic_toml_read.proofs.Common.{nesting_limit, text_at, is_comment, IsRow, row_read, row_of, Rows, no_rows}
+use Rattle.basic_toml_read.proofs.Common.{row, rows_level, Assigned, Gathered, Lines, no_lines, and_lines, lines_of}
+use Rattle.basic_toml_read.proofs.Common.{lines_view, IsRowRead}
 use Rattle.basic_toml_read.proofs.ViewsSeen.{lines_assoc, lines_none}
 
 -- a row that was found, before others

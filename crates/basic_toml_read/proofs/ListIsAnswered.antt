@@ -1,19 +1,9 @@
 -- Why `sections` answers no list: the error of a stop is one that the text allows.
-use Rattle.std.proofs.Common.{inl, inr, ◌<◌, ℕ, List, sym, subst}
+use Rattle.basic_toml_read.proofs.Common.{inl, inr, ◌<◌, ℕ, List, sym, subst, nesting_limit, folded, highest_level}
+use Rattle.basic_toml_read.proofs.Common.{DeepStop, section_list_of, Stop, Why, Memory, Deep, Misses, IsStop, AtDeep}
 use Rattle.std.specs.Prelude.{IsUtf8}
-use Rattle.basic_toml_value.specs.Nesting.{nesting_limit}
-use Rattle.basic_toml_tokens.specs.Text.{folded}
 use Rattle.basic_toml_grammar.specs.Faults.{Fault}
-use Rattle.basic_toml_grammar.specs.Levels.{highest_level}
-use Rattle.basic_toml_grammar.specs.DeepStops.{DeepStop}
-use Rattle.basic_toml_grammar.specs.Reader.{section_list_of}
-use Rattle.basic_toml_explain.specs.declared.stop.Stop.{Stop}
-use Rattle.basic_toml_explain.specs.declared.stop.Why.{Why}
-use Rattle.basic_toml_explain.specs.declared.stop.Why.TheVariants.{Memory, Deep}
 use Rattle.basic_toml_explain.specs.Explain.{ExplainsWhy}
-use Rattle.basic_toml_read.specs.StopsAt.{Misses}
-use Rattle.basic_toml_read.specs.SectionsRead.{IsStop}
-use Rattle.basic_toml_read.specs.StopsReached.{AtDeep}
 use Rattle.basic_toml_read.specs.SectionsAnswer.{HoldsMore, IsRefused, memory, deep, outside}
 use Rattle.basic_toml_grammar.proofs.Grammar.ReaderIsComplete.{list_found}
 use Rattle.basic_toml_grammar.proofs.Nesting.DeepStopsAreTooDeep.{deep_stops_are_too_deep}

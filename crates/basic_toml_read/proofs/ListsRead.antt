@@ -1,40 +1,29 @@
 -- The list of a text: the rows before its first header, a section by its header, and the sections one by one.
-use Rattle.std.proofs.Common.{◌≡◌, ℕ, ◌+◌, ◌<◌, ◌≤◌, max, List, [], ◌∷◌, ◌++◌, length, refl, ap, sym, ◌∙◌, arith}
-use Rattle.std.proofs.Common.{Option, Some, None, Ok, Err, ◌*◌, append_assoc, append-nil, map, suc, ◌==◌, true}
-use Rattle.std.specs.Option.{IfSome}
-use Rattle.std.specs.Str.{IsCharBoundary}
-use Rattle.std.proofs.lemmas.List.{length-map, nil_from_length}
-use Rattle.basic_toml_value.specs.Nesting.{nesting_limit}
-use Rattle.basic_toml_tokens.specs.Text.{Text, text_at, folded, start_of, is_comment, after_blanks}
-use Rattle.basic_toml_grammar.specs.Sections.{Rows, no_rows, row, Section, Key}
-use Rattle.basic_toml_grammar.specs.Entering.{and_then}
-use Rattle.basic_toml_grammar.specs.Grammar.{with_root, IsRows, IsHeader, EndsLine}
-use Rattle.basic_toml_grammar.specs.Levels.{rows_level, highest_level, section_level}
-use Rattle.basic_toml_grammar.specs.Reader.{section_list_of, end_of, line_end_at}
-use Rattle.basic_toml_grammar.specs.Holes.{HoleInText, HoleInSections}
+use Rattle.basic_toml_read.proofs.Common.{◌≡◌, ℕ, ◌+◌, ◌<◌, ◌≤◌, max, List, [], ◌∷◌, ◌++◌, length, refl, ap, sym, ◌∙◌}
+use Rattle.basic_toml_read.proofs.Common.{arith, Option, Some, None, Ok, Err, ◌*◌, append_assoc, append-nil, map, suc}
+use Rattle.basic_toml_read.proofs.Common.{◌==◌, true, IsCharBoundary, length-map, nil_from_length, nesting_limit, Text}
+use Rattle.basic_toml_read.proofs.Common.{text_at, folded, is_comment, after_blanks, Rows, no_rows, row, Section, Key}
+use Rattle.basic_toml_read.proofs.Common.{and_then, with_root, IsRows, IsHeader, EndsLine, rows_level, highest_level}
+use Rattle.basic_toml_read.proofs.Common.{section_list_of, end_of, line_end_at, HoleInSections, DeepRows, Stop}
+use Rattle.basic_toml_read.proofs.Common.{StopsInside, Gathered, rows_of, sections_of, header_of, Lines, no_lines}
+use Rattle.basic_toml_read.proofs.Common.{and_lines, lines_of, lines_view, Misses, AreRowsRead, NextAt, PassesGaps}
+use Rattle.basic_toml_read.proofs.Common.{IsFrom, sections_from, EndsLineAt, IsStop, LeadsTo, in_rows, in_sections}
+use Rattle.basic_toml_read.proofs.Common.{key_of, then_some, rows_read, header_read, line_end_read, vec_len}
 use Rattle.basic_toml_grammar.specs.DeepStops as deep
-use Rattle.basic_toml_grammar.specs.DeepStops.{DeepRows}
 use Rattle.basic_toml_grammar.specs.Reader as reader
-use Rattle.basic_toml_explain.specs.declared.stop.Stop.{Stop}
-use Rattle.basic_toml_explain.specs.Stop.{StopsInside}
-use Rattle.basic_toml_read.specs.declared.values.Gathered.{Gathered}
-use Rattle.basic_toml_read.specs.FrontOf.{rows_of, sections_of, header_of}
-use Rattle.basic_toml_read.specs.Gathers.{Lines, no_lines, and_lines, lines_of, lines_view}
-use Rattle.basic_toml_read.specs.StopsAt.{Misses}
-use Rattle.basic_toml_read.specs.Lists.{AreRowsRead, NextAt, PassesGaps, Header, IsFrom, sections_from, section_seen}
-use Rattle.basic_toml_read.specs.Lists.{IsSectionRead, IsHeaderRead, EndsLineAt}
-use Rattle.basic_toml_read.specs.SectionsRead.{onto, ListSoFar, IsStop, IsList, left_after}
-use Rattle.basic_toml_read.specs.StopsReached.{LeadsTo, in_rows, in_text, IfDeepSection, InSectionHole, in_sections}
-use Rattle.basic_toml_read.specs.SectionView.{key_of}
-use Rattle.basic_toml_grammar.proofs.Grammar.StringsAreRead.{then_some}
 use Rattle.basic_toml_grammar.proofs.Nesting.WithinTheLimit as within
-use Rattle.basic_toml_grammar.proofs.Grammar.ReaderIsSound.{rows_read, header_read, line_end_read}
+use Rattle.std.specs.Option.{IfSome}
+use Rattle.basic_toml_tokens.specs.Text.{start_of}
+use Rattle.basic_toml_grammar.specs.Levels.{section_level}
+use Rattle.basic_toml_grammar.specs.Holes.{HoleInText}
+use Rattle.basic_toml_read.specs.Lists.{Header, section_seen, IsSectionRead, IsHeaderRead}
+use Rattle.basic_toml_read.specs.SectionsRead.{onto, ListSoFar, IsList, left_after}
+use Rattle.basic_toml_read.specs.StopsReached.{in_text, IfDeepSection, InSectionHole}
 use Rattle.basic_toml_read.proofs.StandsIn.{stops_on, at_deep, then_in}
 use Rattle.basic_toml_read.proofs.RowsRead.{RowsAnswered}
 use Rattle.basic_toml_read.proofs.NothingTooDeep.{root_rows, after_header, its_rows}
 use Rattle.basic_toml_read.proofs.EnoughSteps.{list_is, sections_is}
 use Rattle.basic_toml_read.proofs.GoesOn.{misses_none, misses_on, then_from}
-use Rattle.std.specs.Vec.{vec_len}
 use Rattle.std.proofs.lemmas.Bool.{eqb-true}
 
 root_onto : (rs : Rows) (headed : List Section) → with_root rs headed ≡ with_root rs [] ++ headed

@@ -1,15 +1,10 @@
 -- The next of a table's rows, with its parents.
-use Rattle.std.proofs.Common.{◌≡◌, ℕ, ◌+◌, ◌<◌, List, [], ◌∷◌, ◌++◌, drop, take, length, get_or, map, refl, ap, ◌-◌}
-use Rattle.std.proofs.Common.{◌≤◌, arith, rules}
-use Rattle.std.proofs.lemmas.List.{drop_more, take_rest, length-drop, take-map, drop-map, take-append-drop}
-use Rattle.basic_toml_grammar.specs.Sections.{Rows, row}
-use Rattle.basic_toml_read.specs.declared.section.Raw.{the_lemmas}
-use Rattle.basic_toml_read.specs.declared.section.Row.{Row, out-Row}
+use Rattle.basic_toml_read.proofs.Common.{◌≡◌, ℕ, ◌+◌, ◌<◌, List, [], ◌∷◌, ◌++◌, drop, take, length, get_or, map, refl}
+use Rattle.basic_toml_read.proofs.Common.{ap, ◌-◌, ◌≤◌, arith, rules, length-drop, Rows, row, the_lemmas, Row, out-Row}
+use Rattle.basic_toml_read.proofs.Common.{key_text_bytes, key_of, raw_of, lined_of, rows_from, drop-append_seam}
 use Rattle.basic_toml_read.specs.declared.section.Key as code_keys
-use Rattle.basic_toml_read.specs.KeyText.{key_text_bytes}
-use Rattle.basic_toml_read.specs.SectionView.{key_of, raw_of, lined_of, rows_from}
+use Rattle.std.proofs.lemmas.List.{drop_more, take_rest, take-map, drop-map, take-append-drop}
 use lib.Seq.{take-nil, drop-nil}
-use Rattle.std.proofs.Math.Seq.{drop-append_seam}
 
 pub lined_is : (r : Row) → lined_of r ≡ record {
   key = record { offset = (out-Row r).offset; text = key_text_bytes (out-Row r).key };

@@ -1,18 +1,15 @@
 -- Where what is read first is missing, only that is too deep.
-use Rattle.std.proofs.Common.{◌≡◌, ◌≤◌, ◌+◌, ◌*◌, ℕ, suc, Bool, List, length, ap, sym, ◌∙◌, arith, None}
-use Rattle.basic_toml_value.specs.Nesting.{nesting_limit}
-use Rattle.basic_toml_tokens.specs.Text.{Text, is_comment, after_blanks}
-use Rattle.basic_toml_grammar.specs.Sections.{Key, Raw, Rows}
-use Rattle.basic_toml_grammar.specs.Grammar.{IsRow, IsRows, IsHeader, EndsLine}
+use Rattle.basic_toml_read.proofs.Common.{◌≡◌, ◌≤◌, ◌+◌, ◌*◌, ℕ, suc, Bool, List, length, ap, sym, ◌∙◌, arith, None}
+use Rattle.basic_toml_read.proofs.Common.{nesting_limit, Text, is_comment, after_blanks, Key, Raw, Rows, IsRow, IsRows}
+use Rattle.basic_toml_read.proofs.Common.{IsHeader, EndsLine, DeepKeys, DeepRow, DeepValue, DeepElements}
+use Rattle.basic_toml_read.proofs.Common.{DeepFields, DeepRows, DeepHeader, DeepStop, char_at, line_end_at}
+use Rattle.basic_toml_read.proofs.Common.{keys_of, value_of, row_of, rows_of, header_of, value_found, row_found}
+use Rattle.basic_toml_read.proofs.Common.{rows_found, header_found}
 use Rattle.basic_toml_grammar.specs.DeepStops as deep
-use Rattle.basic_toml_grammar.specs.DeepStops.{DeepKeys, DeepRow, DeepValue, DeepArray, DeepElements, DeepInline}
-use Rattle.basic_toml_grammar.specs.DeepStops.{DeepFields, DeepRows, DeepHeader, DeepSections, DeepStop}
-use Rattle.basic_toml_grammar.specs.Reader.{char_at, line_end_at}
-use Rattle.basic_toml_read.specs.FrontOf.{keys_of, value_of, row_of, rows_of, header_of}
-use Rattle.basic_toml_grammar.proofs.Grammar.GrammarIsUnambiguous.{header_same, ends_same}
-use Rattle.basic_toml_grammar.proofs.Grammar.ReaderIsComplete.{keys_found, value_found, row_found, rows_found}
-use Rattle.basic_toml_grammar.proofs.Grammar.ReaderIsComplete.{header_found}
 use Rattle.basic_toml_grammar.proofs.Nesting.WithinTheLimit as within
+use Rattle.basic_toml_grammar.specs.DeepStops.{DeepSections}
+use Rattle.basic_toml_grammar.proofs.Grammar.GrammarIsUnambiguous.{header_same, ends_same}
+use Rattle.basic_toml_grammar.proofs.Grammar.ReaderIsComplete.{keys_found}
 
 -- what is not found does not stand there
 row_absent : {text mid : Text} {q : ℕ} {ks : List Key} {v : Raw} → row_of text ≡ None

@@ -1,21 +1,18 @@
 -- Rows that the code reads have keys at every depth.
-use Rattle.std.proofs.Common.{◌≡◌, true, List, [], ◌∷◌, ◌++◌, map, take, drop, refl, subst, rules}
-use mathlib.Core.List.{map-map}
-use Rattle.basic_toml_grammar.specs.Sections.{Key, Rows, no_rows, row}
-use Rattle.basic_toml_grammar.specs.Entering.{has_key, rows_keyed, keyed_within, value_keyed, elements_keyed}
-use Rattle.basic_toml_grammar.specs.Entering.{all_keyed_within}
-use Rattle.basic_toml_read.specs.declared.section.Raw.{Raw, map-Raw, roll-Raw, ind-Raw, the_lemmas}
-use Rattle.basic_toml_read.specs.declared.section.Raw.TheOpen.{Raw-F}
-use Rattle.basic_toml_read.specs.declared.section.Element.{Element, out-Element}
+use Rattle.basic_toml_read.proofs.Common.{◌≡◌, true, List, [], ◌∷◌, ◌++◌, map, take, drop, refl, subst, rules, Key}
+use Rattle.basic_toml_read.proofs.Common.{Rows, no_rows, row, the_lemmas, Element, out-Element, Row, out-Row, key_of}
+use Rattle.basic_toml_read.proofs.Common.{raw_of, placed_of, lined_of, rows_from, rows_seen, section_of, and_parts}
 use Rattle.basic_toml_read.specs.declared.section.Key as keys
-use Rattle.basic_toml_read.specs.declared.section.Row.{Row, out-Row}
 use Rattle.basic_toml_read.specs.declared.section.Rows as tables
 use Rattle.basic_toml_read.specs.declared.section.Section as code
-use Rattle.basic_toml_read.specs.SectionView.{Lined, key_of, raw_of, placed_of, lined_of, elements_from, rows_from}
-use Rattle.basic_toml_read.specs.SectionView.{rows_seen, rows_view, section_of}
+use mathlib.Core.List.{map-map}
+use Rattle.basic_toml_grammar.specs.Entering.{has_key, rows_keyed, keyed_within, value_keyed, elements_keyed}
+use Rattle.basic_toml_grammar.specs.Entering.{all_keyed_within}
+use Rattle.basic_toml_read.specs.declared.section.Raw.{Raw, map-Raw, roll-Raw, ind-Raw}
+use Rattle.basic_toml_read.specs.declared.section.Raw.TheOpen.{Raw-F}
+use Rattle.basic_toml_read.specs.SectionView.{Lined, elements_from, rows_view}
 use Rattle.basic_toml_read.proofs.NextRow.{lined_is}
 use Rattle.basic_toml_read.proofs.ViewsSeen.{placed_is}
-use Rattle.std.proofs.lemmas.Bool.{and_parts}
 
 abbrev OfRaw : Raw → Type 0
 OfRaw v = value_keyed (raw_of v) ≡ true

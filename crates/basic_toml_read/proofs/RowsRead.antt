@@ -1,31 +1,17 @@
 -- The rows of a section, line by line.
-use Rattle.std.proofs.Common.{inr, ◌≡◌, ℕ, ◌<◌, ◌≤◌, List, [], ◌∷◌, length, refl, ap, sym, ◌∙◌, arith, true, Option}
-use Rattle.std.proofs.Common.{Some, None, is_some, Result, Ok, Err, IfErr}
-use Rattle.std.specs.Str.{IsUtf8, IsCharBoundary}
-use Rattle.basic_toml_value.specs.Nesting.{nesting_limit}
-use Rattle.basic_toml_tokens.specs.Text.{Text, text_at, is_comment, after_blanks}
-use Rattle.basic_toml_tokens.specs.Punctuation.{IsPunctuationEnd}
-use Rattle.basic_toml_tokens.proofs.RestsArePartsOfText.{over_at_end}
-use Rattle.basic_toml_tokens.proofs.StepIsTheFold.{text_end}
-use Rattle.basic_toml_grammar.specs.Sections.{Rows, no_rows}
-use Rattle.basic_toml_grammar.specs.Entering.{and_then}
-use Rattle.basic_toml_grammar.specs.Grammar.{EndsLine, IsRow}
-use Rattle.basic_toml_grammar.specs.Levels.{rows_level}
-use Rattle.basic_toml_grammar.specs.Reader.{char_at, key_at, if_found, end_of, line_end_at}
-use Rattle.basic_toml_grammar.specs.DeepStops.{DeepRows, this_row, after_empty, later_row, DeepRow}
-use Rattle.basic_toml_grammar.specs.Holes.{Hole, HoleInRows}
-use Rattle.basic_toml_explain.specs.declared.stop.Stop.{Stop}
-use Rattle.basic_toml_explain.specs.declared.stop.Why.TheVariants.{Newline}
-use Rattle.basic_toml_explain.specs.Stop.{StopsInside}
-use Rattle.basic_toml_read.specs.declared.values.Gathered.{Gathered}
-use Rattle.basic_toml_read.specs.FrontOf.{rows_of, row_of}
-use Rattle.basic_toml_read.specs.AtPlace.{EndsAt, Leaves}
-use Rattle.basic_toml_read.specs.Gathers.{row_level, Lines, and_lines, lines_of, IsRowRead}
-use Rattle.basic_toml_read.specs.Lists.{IsFrom, NextAt, AreRowsRead, EndsLineAt, IsGap, PassesGaps, ReadsRows}
-use Rattle.basic_toml_read.specs.StopsReached.{IfDeep, InHole, LeadsTo, in_row, in_rows}
-use Rattle.basic_toml_grammar.proofs.Grammar.StringsAreRead.{then_some}
-use Rattle.basic_toml_grammar.proofs.Grammar.ReaderIsSound.{line_end_read}
+use Rattle.basic_toml_read.proofs.Common.{inr, ◌≡◌, ℕ, ◌<◌, ◌≤◌, List, [], ◌∷◌, length, refl, ap, sym, ◌∙◌, arith, true}
+use Rattle.basic_toml_read.proofs.Common.{Option, Some, None, is_some, Result, Ok, Err, IfErr, IsUtf8, IsCharBoundary}
+use Rattle.basic_toml_read.proofs.Common.{nesting_limit, Text, text_at, is_comment, after_blanks, IsPunctuationEnd}
+use Rattle.basic_toml_read.proofs.Common.{over_at_end, text_end, Rows, no_rows, and_then, EndsLine, IsRow, rows_level}
+use Rattle.basic_toml_read.proofs.Common.{char_at, key_at, if_found, end_of, line_end_at, DeepRows, DeepRow, Hole, Stop}
+use Rattle.basic_toml_read.proofs.Common.{Newline, StopsInside, Gathered, rows_of, row_of, EndsAt, Leaves, row_level}
+use Rattle.basic_toml_read.proofs.Common.{Lines, and_lines, lines_of, IsRowRead, IsFrom, NextAt, AreRowsRead}
+use Rattle.basic_toml_read.proofs.Common.{EndsLineAt, IsGap, PassesGaps, IfDeep, InHole, LeadsTo, in_row, in_rows}
+use Rattle.basic_toml_read.proofs.Common.{then_some, line_end_read}
 use Rattle.basic_toml_grammar.proofs.Nesting.WithinTheLimit as within
+use Rattle.basic_toml_grammar.specs.DeepStops.{this_row, after_empty, later_row}
+use Rattle.basic_toml_grammar.specs.Holes.{HoleInRows}
+use Rattle.basic_toml_read.specs.Lists.{ReadsRows}
 use Rattle.basic_toml_read.proofs.NothingTooDeep.{line_row}
 use Rattle.basic_toml_read.proofs.EnoughSteps.{after_row, keys_is, row_is, rows_is}
 use Rattle.basic_toml_read.proofs.LeftAfter.{sign_there, sign_missing, gap_past_line, gap_over, gap_ends_line}

@@ -1,31 +1,17 @@
 -- Strings and words as values: a scalar has no level, and where neither stands, a value is wanted.
-use Rattle.std.proofs.Common.{◌≡◌, ℕ, List, [], ◌∷◌, refl, ap, sym, ◌∙◌, arith, Option, Some, None, Result, Ok, Err}
-use Rattle.std.proofs.Common.{IfErr, ℤ, Bool, true, false, cond, encode_utf8_all}
-use Rattle.std.specs.Option.{option_or}
-use Rattle.basic_toml_value.specs.Nesting.{nesting_limit}
-use Rattle.basic_toml_tokens.specs.Text.{Text, text_at, run}
-use Rattle.basic_toml_grammar.specs.Copies.{up_to, needs_copy}
-use Rattle.basic_toml_grammar.specs.DeepStops.{DeepValue, array, inline}
-use Rattle.basic_toml_grammar.specs.Grammar.{is_wordlike, number_value, word_value}
-use Rattle.basic_toml_grammar.specs.Holes.{HoleInValue}
-use Rattle.basic_toml_grammar.specs.Levels.{value_level}
+use Rattle.basic_toml_read.proofs.Common.{◌≡◌, ℕ, List, [], ◌∷◌, refl, ap, sym, ◌∙◌, arith, Option, Some, None, Result}
+use Rattle.basic_toml_read.proofs.Common.{Ok, Err, IfErr, ℤ, Bool, true, false, cond, encode_utf8_all, option_or}
+use Rattle.basic_toml_read.proofs.Common.{nesting_limit, Text, text_at, run, DeepValue, array, inline, is_wordlike}
+use Rattle.basic_toml_read.proofs.Common.{number_value, word_value, HoleInValue, value_level, char_at, string_at}
+use Rattle.basic_toml_read.proofs.Common.{word_at, string_value_at, Raw, hole_behind, StopsInside, Stop, Why, Valued}
+use Rattle.basic_toml_read.proofs.Common.{Gathered, value_of, IsValueRead, ReadsValue, MissesString, in_value}
+use Rattle.basic_toml_read.proofs.Common.{then_some}
 use Rattle.basic_toml_grammar.specs.Reader as reader
-use Rattle.basic_toml_grammar.specs.Reader.{char_at, string_at, word_at, string_value_at}
-use Rattle.basic_toml_grammar.specs.Sections.{Raw}
-use Rattle.basic_toml_explain.specs.StopHoles.{hole_behind}
-use Rattle.basic_toml_explain.specs.Stop.{StopsInside}
-use Rattle.basic_toml_explain.specs.declared.stop.End.{End}
-use Rattle.basic_toml_explain.specs.declared.stop.Stop.{Stop}
-use Rattle.basic_toml_explain.specs.declared.stop.Why.{Why}
 use Rattle.basic_toml_explain.specs.declared.stop.Why.TheVariants as why
-use Rattle.basic_toml_read.specs.declared.scalar.Valued.{Valued}
-use Rattle.basic_toml_read.specs.declared.values.Gathered.{Gathered}
-use Rattle.basic_toml_read.specs.FrontOf.{value_of}
-use Rattle.basic_toml_read.specs.Gathers.{IsValueRead, ReadsValue}
-use Rattle.basic_toml_read.specs.StopsAt.{IsValued, ReadsStringAt, ReadsWordAt, MissesString, MissesWord, WantsEnd}
-use Rattle.basic_toml_read.specs.StopsReached.{in_value}
-use Rattle.basic_toml_grammar.proofs.Grammar.StringsAreRead.{then_some}
 use Rattle.basic_toml_grammar.proofs.Nesting.WithinTheLimit as within
+use Rattle.basic_toml_grammar.specs.Copies.{up_to, needs_copy}
+use Rattle.basic_toml_explain.specs.declared.stop.End.{End}
+use Rattle.basic_toml_read.specs.StopsAt.{IsValued, ReadsStringAt, ReadsWordAt, MissesWord, WantsEnd}
 use Rattle.basic_toml_read.proofs.StandsIn.{Answered, without_stop}
 use Rattle.basic_toml_read.proofs.EnoughSteps.{value_is}
 use Rattle.basic_toml_read.proofs.GoesOn.{found_from, then_from}

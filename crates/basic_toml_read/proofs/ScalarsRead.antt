@@ -1,32 +1,22 @@
 -- Keys and strings at an offset, against the grammar.
-use Rattle.std.proofs.Common.{inl, inr, ◌≡◌, ℕ, Bool, List, [], ◌∷◌, length, refl, ap, sym, ◌∙◌, arith, encode_utf8_all}
-use Rattle.std.proofs.Common.{Option, Some, None, Result, Ok, Err}
-use Rattle.std.specs.Str.{IsUtf8, IsCharBoundary}
-use Rattle.std.proofs.lemmas.List.{nil_from_length}
-use Rattle.std.proofs.lemmas.Str.{encodes-IsAscii}
+use Rattle.basic_toml_read.proofs.Common.{inl, inr, ◌≡◌, ℕ, Bool, List, [], ◌∷◌, length, refl, ap, sym, ◌∙◌, arith}
+use Rattle.basic_toml_read.proofs.Common.{encode_utf8_all, Option, Some, None, Result, Ok, Err, IsUtf8, IsCharBoundary}
+use Rattle.basic_toml_read.proofs.Common.{nil_from_length, encodes-IsAscii, Text, text_at, run, after_run, is_keylike}
+use Rattle.basic_toml_read.proofs.Common.{between, IsRun, length-between, offset_is, and_then, string_at, key_at}
+use Rattle.basic_toml_read.proofs.Common.{string_value_at, Stop, Why, Memory, Keyed, KeyText, key_text_bytes}
+use Rattle.basic_toml_read.proofs.Common.{ReadsKeyAt}
+use Rattle.basic_toml_grammar.specs.Sections as sections
+use Rattle.basic_toml_grammar.specs.Reader as reader
 use Rattle.basic_toml_tokens.specs.declared.error.Error.{Error}
 use Rattle.basic_toml_tokens.specs.declared.error.Error.TheVariants.{OutOfMemory}
 use Rattle.basic_toml_tokens.specs.declared.string.Quoted.{Quoted}
 use Rattle.basic_toml_tokens.specs.declared.string.TokenStop.{TokenStop}
-use Rattle.basic_toml_tokens.specs.Text.{Text, text_at, run, after_run, is_keylike}
 use Rattle.basic_toml_tokens.specs.Strings.{IsString}
-use Rattle.basic_toml_tokens.specs.Reading.{between, IsRun}
 use Rattle.basic_toml_tokens.specs.Copies.{is_copied}
 use Rattle.basic_toml_tokens.specs.String.{IsQuoted, IsRefused}
-use Rattle.basic_toml_tokens.proofs.TextBetweenOffsets.{length-between}
-use Rattle.basic_toml_tokens.proofs.StepIsTheFold.{offset_is}
 use Rattle.basic_toml_tokens.proofs.TokenIsUnique.{no_break}
-use Rattle.basic_toml_grammar.specs.Sections as sections
-use Rattle.basic_toml_grammar.specs.Entering.{and_then}
-use Rattle.basic_toml_grammar.specs.Reader as reader
-use Rattle.basic_toml_grammar.specs.Reader.{string_at, bare_key_at, quoted_key, key_at, string_value_at}
-use Rattle.basic_toml_explain.specs.declared.stop.Stop.{Stop}
-use Rattle.basic_toml_explain.specs.declared.stop.Why.{Why}
-use Rattle.basic_toml_explain.specs.declared.stop.Why.TheVariants.{Memory}
-use Rattle.basic_toml_read.specs.declared.scalar.Keyed.{Keyed}
-use Rattle.basic_toml_read.specs.declared.key_text.KeyText.{KeyText}
-use Rattle.basic_toml_read.specs.KeyText.{key_text_bytes}
-use Rattle.basic_toml_read.specs.StopsAt.{why_of, ReadsKeyAt, IsKeyOf}
+use Rattle.basic_toml_grammar.specs.Reader.{bare_key_at, quoted_key}
+use Rattle.basic_toml_read.specs.StopsAt.{why_of, IsKeyOf}
 use Rattle.basic_toml_grammar.proofs.Grammar.StringsAreRead.{string_found, string_read}
 use Rattle.basic_toml_grammar.proofs.Grammar.CopiesAgree.{copies_agree}
 use Rattle.basic_toml_explain.proofs.TakenTokenStands.{keylike_small}

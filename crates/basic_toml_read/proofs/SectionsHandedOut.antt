@@ -1,20 +1,16 @@
 -- A reader hands sections out one after another: where it is then, and what is left.
-use Rattle.std.proofs.Common.{inl, ◌≡◌, ◌==◌, false, List, [], ◌∷◌, ◌++◌, length, refl, Err, length-append, ap, arith}
-use Rattle.basic_toml_tokens.specs.Text.{folded}
-use Rattle.basic_toml_grammar.specs.Grammar.{with_root}
-use Rattle.basic_toml_grammar.specs.Sections.{Section}
-use Rattle.basic_toml_explain.specs.Stop.{no_memory}
-use Rattle.basic_toml_explain.specs.declared.stop.Stop.{Stop}
-use Rattle.basic_toml_read.specs.Lists.{IsGap}
-use Rattle.basic_toml_read.specs.declared.reader.Place.{Place}
-use Rattle.basic_toml_read.specs.declared.reader.Place.TheVariants.{Start, Behind}
-use Rattle.basic_toml_read.specs.declared.reader.SectionReader.{SectionReader}
+use Rattle.basic_toml_read.proofs.Common.{inl, ◌≡◌, ◌==◌, false, List, [], ◌∷◌, ◌++◌, length, refl, Err, length-append}
+use Rattle.basic_toml_read.proofs.Common.{ap, arith, folded, with_root, Section, Stop, IsGap, Behind, rows_seen}
+use Rattle.basic_toml_read.proofs.Common.{no_lines, SoFar, IsEmpty, IsStop}
 use Rattle.basic_toml_read.specs.declared.section.Key as code_keys
 use Rattle.basic_toml_read.specs.declared.section.Row as code_rows
 use Rattle.basic_toml_read.specs.declared.section.Section as code
-use Rattle.basic_toml_read.specs.SectionView.{rows_seen}
-use Rattle.basic_toml_read.specs.Gathers.{no_lines, lines_in}
-use Rattle.basic_toml_read.specs.SectionsRead.{IsBehind, SoFar, IsEmpty, IsStop, ReadsOn}
+use Rattle.basic_toml_explain.specs.Stop.{no_memory}
+use Rattle.basic_toml_read.specs.declared.reader.Place.{Place}
+use Rattle.basic_toml_read.specs.declared.reader.Place.TheVariants.{Start}
+use Rattle.basic_toml_read.specs.declared.reader.SectionReader.{SectionReader}
+use Rattle.basic_toml_read.specs.Gathers.{lines_in}
+use Rattle.basic_toml_read.specs.SectionsRead.{IsBehind, ReadsOn}
 
 -- nothing is in an empty section
 pub none_in : (s : code.Section) → IsEmpty s → lines_in s.rows ≡ no_lines

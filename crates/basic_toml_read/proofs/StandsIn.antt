@@ -1,20 +1,16 @@
 -- What a reading answers of a stop, and what is known of it in a reading that this one stands in: what is too deep in
 -- the one is so in the other, and the holes of the one are holes of the other.
-use Rattle.std.proofs.Common.{◌≡◌, ℕ, List, ap, Result, Ok, Err, refl, Option, None, ◌∙◌, subst, IfErr, inl, inr, ◌==◌}
-use Rattle.std.proofs.Common.{◌||◌, sym, eqb-true}
+use Rattle.basic_toml_read.proofs.Common.{◌≡◌, ℕ, List, ap, Result, Ok, Err, refl, Option, None, ◌∙◌, subst, IfErr, inl}
+use Rattle.basic_toml_read.proofs.Common.{inr, ◌==◌, sym, eqb-true, Text, text_at, Hole, HoleInKeys, char_at}
+use Rattle.basic_toml_read.proofs.Common.{StopsInside, Stop, Why, Memory, Deep, IfDeep, InHole, AtDeep, LeadsTo}
+use Rattle.basic_toml_read.proofs.Common.{StopsAtKey, Misses}
+use Rattle.basic_toml_explain.specs.declared.stop.Why.TheVariants as why
+use Rattle.std.proofs.Common.{◌||◌}
 use Rattle.std.specs.Result.{IsErrAnd}
 use Rattle.std.proofs.lemmas.Bool.{or_cases}
-use Rattle.basic_toml_tokens.specs.Text.{Text, text_at}
-use Rattle.basic_toml_grammar.specs.Holes.{Fits, fits, Hole, HoleInKeys}
-use Rattle.basic_toml_grammar.specs.Reader.{char_at}
-use Rattle.basic_toml_explain.specs.Stop.{StopsInside}
-use Rattle.basic_toml_explain.specs.declared.stop.Stop.{Stop}
-use Rattle.basic_toml_explain.specs.declared.stop.Why.{Why}
-use Rattle.basic_toml_explain.specs.declared.stop.Why.TheVariants.{Memory, Deep}
+use Rattle.basic_toml_grammar.specs.Holes.{Fits, fits}
 use Rattle.basic_toml_explain.specs.StopHoles.{StopsFor}
-use Rattle.basic_toml_explain.specs.declared.stop.Why.TheVariants as why
-use Rattle.basic_toml_read.specs.StopsReached.{Holes, IfDeep, InHole, AtDeep, LeadsTo, StopsAtKey}
-use Rattle.basic_toml_read.specs.StopsAt.{Misses}
+use Rattle.basic_toml_read.specs.StopsReached.{Holes}
 use Rattle.basic_toml_grammar.proofs.Nesting.WithinTheLimit.{no_such}
 
 abbrev pub Answered : {A : Type 0} → List ℕ → (Result A Stop → Type 0) → (ℕ → Type 0) → Holes → Result A Stop → Type 0

@@ -1,18 +1,13 @@
 -- What each form of the code's values stands for.
-use Rattle.std.proofs.Common.{◌≡◌, ℕ, List, [], ◌∷◌, ◌++◌, sym, ◌∙◌, length, map, Vec, Global, refl, rules}
-use Rattle.std.proofs.Common.{append_assoc, append-nil}
-use Rattle.std.proofs.Math.Seq.{drop-append_seam, take-append_seam}
-use Rattle.std.proofs.lemmas.List.{map-append, length-map}
+use Rattle.basic_toml_read.proofs.Common.{◌≡◌, ℕ, List, [], ◌∷◌, ◌++◌, sym, ◌∙◌, length, map, Vec, Global, refl, rules}
+use Rattle.basic_toml_read.proofs.Common.{append_assoc, append-nil, drop-append_seam, take-append_seam, map-append}
+use Rattle.basic_toml_read.proofs.Common.{length-map, KeyText, the_lemmas, Element, out-Element, roll-Row}
+use Rattle.basic_toml_read.proofs.Common.{key_text_bytes, key_of, raw_of, placed_of, elements_view, Lines, no_lines}
+use Rattle.basic_toml_read.proofs.Common.{and_lines, lines_view}
 use Rattle.basic_toml_grammar.specs.Sections as spec
-use Rattle.basic_toml_read.specs.declared.key_text.KeyText.{KeyText}
-use Rattle.basic_toml_read.specs.declared.section.Raw.{Raw, the_lemmas, Array}
-use Rattle.basic_toml_read.specs.declared.section.Element.{Element, out-Element}
-use Rattle.basic_toml_read.specs.declared.section.Row.{roll-Row}
 use Rattle.basic_toml_read.specs.declared.section.Key as code_keys
+use Rattle.basic_toml_read.specs.declared.section.Raw.{Raw, Array}
 use Rattle.basic_toml_read.proofs.NextRow.{lined_is}
-use Rattle.basic_toml_read.specs.KeyText.{key_text_bytes}
-use Rattle.basic_toml_read.specs.SectionView.{key_of, raw_of, placed_of, elements_view}
-use Rattle.basic_toml_read.specs.Gathers.{Lines, no_lines, and_lines, lines_view}
 
 pub array_of : (v : Vec Element Global) → raw_of (Array v) ≡ spec.Raw.array (elements_view v.items)
 array_of v = search (rules, the_lemmas)

@@ -1,27 +1,22 @@
 -- Words as values, against the grammar.
-use Rattle.std.proofs.Common.{◌≡◌, ℕ, zero, suc, ◌+◌, ◌<◌, ◌≤◌, ◌==◌, Bool, true, false, List, ℤ, ◌-◌, [], ◌∷◌, length}
-use Rattle.std.proofs.Common.{take, drop, get_or, refl, ap, sym, ◌∙◌, arith, Option, Some, None}
+use Rattle.basic_toml_read.proofs.Common.{◌≡◌, ℕ, suc, ◌+◌, ◌<◌, ◌≤◌, ◌==◌, Bool, true, false, List, ℤ, ◌-◌, [], ◌∷◌}
+use Rattle.basic_toml_read.proofs.Common.{length, take, drop, get_or, refl, ap, sym, ◌∙◌, arith, Option, Some, None}
+use Rattle.basic_toml_read.proofs.Common.{IsUtf8, IsCharBoundary, encodes-IsAscii, and_parts, or_from, length-drop}
+use Rattle.basic_toml_read.proofs.Common.{nat_tests, Text, text_at, run, after_run, between, IsRun, length-between}
+use Rattle.basic_toml_read.proofs.Common.{offset_is, Raw, is_wordlike, word_value, number_value, word_at, Leaves}
+use Rattle.std.proofs.Common.{zero}
 use Rattle.std.specs.Prelude.{position, codes}
-use Rattle.std.specs.Str.{IsUtf8, IsCharBoundary, bytes_eq}
+use Rattle.std.specs.Str.{bytes_eq}
 use Rattle.std.specs.List.{list_all, prefix_len}
-use Rattle.std.proofs.lemmas.Str.{encodes-IsAscii, IsCharBoundary-after_ascii}
-use Rattle.std.proofs.lemmas.Bool.{and_parts, or_from}
-use Rattle.std.proofs.lemmas.List.{at_drop_more, length-drop, length-take-le}
+use Rattle.std.proofs.lemmas.Str.{IsCharBoundary-after_ascii}
+use Rattle.std.proofs.lemmas.List.{at_drop_more, length-take-le}
 use Rattle.std.proofs.Math.Seq.{take-length}
 use Rattle.std.proofs.lemmas.List.Sums.{prefix_len-drop_yes}
-use Rattle.std.proofs.lemmas.Bool.Decides.{nat_tests}
 use Rattle.basic_toml_numbers.specs.Numbers.{is_decimal, integer_of, first_digits, float_of}
 use Rattle.basic_toml_numbers.proofs.FirstDigits.{are_first}
-use Rattle.basic_toml_tokens.specs.Text.{Text, text_at, run, after_run}
-use Rattle.basic_toml_tokens.specs.Reading.{between, IsRun}
 use Rattle.basic_toml_tokens.proofs.RestsArePartsOfText.{part_later}
-use Rattle.basic_toml_tokens.proofs.TextBetweenOffsets.{length-between}
-use Rattle.basic_toml_tokens.proofs.StepIsTheFold.{offset_is}
 use Rattle.basic_toml_tokens.proofs.RunsAreFound.{IsRunTest, run_by_bytes}
-use Rattle.basic_toml_grammar.specs.Sections.{Raw}
-use Rattle.basic_toml_grammar.specs.Grammar.{is_wordlike, word_value, number_value, to_period, word_offset}
-use Rattle.basic_toml_grammar.specs.Reader.{word_at}
-use Rattle.basic_toml_read.specs.AtPlace.{Leaves}
+use Rattle.basic_toml_grammar.specs.Grammar.{to_period, word_offset}
 use Rattle.basic_toml_read.specs.Word.{offset_by, value_offset}
 use Rattle.basic_toml_read.proofs.GoesOn.{then_from}
 

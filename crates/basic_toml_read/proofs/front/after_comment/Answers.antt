@@ -1,7 +1,6 @@
-use Rattle.std.proofs.Common.{sym, arith}
-use Rattle.basic_toml_tokens.specs.Text.{text_at}
-use Rattle.basic_toml_read.proofs.LeftAfter.{no_comment}
+use Rattle.basic_toml_read.proofs.Common.{sym, arith, text_at}
 use Rattle.basic_toml_read.proofs.front.after_comment.Goals as goal
+use Rattle.basic_toml_read.proofs.LeftAfter.{no_comment}
 
 pub returns-in-None : goal.returns-in-None
 returns-in-None c = record {

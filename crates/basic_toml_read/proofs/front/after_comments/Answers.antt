@@ -1,8 +1,6 @@
-use Rattle.std.proofs.Common.{◌≡◌, ap, sym, ◌∙◌, arith}
-use Rattle.basic_toml_tokens.specs.Text.{text_at, is_comment}
-use Rattle.basic_toml_grammar.specs.Grammar.{after_gap}
-use Rattle.basic_toml_read.proofs.LeftAfter.{gap_past_line, gap_past_feed, gap_stops}
+use Rattle.basic_toml_read.proofs.Common.{◌≡◌, ap, sym, ◌∙◌, arith, text_at, is_comment, after_gap}
 use Rattle.basic_toml_read.proofs.front.after_comments.Goals as goal
+use Rattle.basic_toml_read.proofs.LeftAfter.{gap_past_line, gap_past_feed, gap_stops}
 
 pub loop-next-init : goal.loop-next-init
 loop-next-init c =

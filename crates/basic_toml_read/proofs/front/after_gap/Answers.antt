@@ -1,9 +1,7 @@
-use Rattle.std.proofs.Common.{ap, sym, ◌∙◌, arith}
-use Rattle.basic_toml_tokens.specs.Text.{text_at, after_blanks, is_blank, is_comment}
-use Rattle.basic_toml_tokens.proofs.SpacesAreRuns.{after_twice}
-use Rattle.basic_toml_grammar.specs.Grammar.{after_gap}
-use Rattle.basic_toml_read.proofs.LeftAfter.{gap_past_blanks, gap_past_feed, gap_stands}
+use Rattle.basic_toml_read.proofs.Common.{ap, sym, ◌∙◌, arith, text_at, after_blanks, is_blank, is_comment, after_twice}
+use Rattle.basic_toml_read.proofs.Common.{after_gap}
 use Rattle.basic_toml_read.proofs.front.after_gap.Goals as goal
+use Rattle.basic_toml_read.proofs.LeftAfter.{gap_past_blanks, gap_past_feed, gap_stands}
 
 pub loop-next-init : goal.loop-next-init
 loop-next-init c =

@@ -1,7 +1,5 @@
-use Rattle.std.proofs.Common.{◌≡◌, ◌≤◌, ◌-◌, length}
-use Rattle.std.specs.Str.{IsCharBoundary}
-use Rattle.basic_toml_tokens.specs.Text.{text_at, after_blanks, is_comment}
-use Rattle.basic_toml_grammar.specs.Grammar.{after_gap}
+use Rattle.basic_toml_read.proofs.Common.{◌≡◌, ◌≤◌, ◌-◌, length, IsCharBoundary, text_at, after_blanks, is_comment}
+use Rattle.basic_toml_read.proofs.Common.{after_gap}
 use Rattle.basic_toml_read.proofs.front.after_gap.Given as goal
 
 -- within the gap, and after its blanks

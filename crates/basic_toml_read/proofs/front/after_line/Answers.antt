@@ -1,8 +1,6 @@
-use Rattle.std.proofs.Common.{inr, ◌≤◌, length, refl, arith}
-use Rattle.basic_toml_tokens.proofs.StepIsTheFold.{text_end}
-use Rattle.basic_toml_tokens.proofs.RestsArePartsOfText.{over_at_end}
-use Rattle.basic_toml_read.proofs.LeftAfter.{line_goes_on}
+use Rattle.basic_toml_read.proofs.Common.{inr, ◌≤◌, length, refl, arith, text_end, over_at_end}
 use Rattle.basic_toml_read.proofs.front.after_line.Goals as goal
+use Rattle.basic_toml_read.proofs.LeftAfter.{line_goes_on}
 
 pub returns-then-at-text : goal.returns-then-at-text
 returns-then-at-text c =

@@ -1,12 +1,9 @@
-use Rattle.std.proofs.Common.{◌≡◌, refl, ◌≤◌, ℕ, List, Option, Some, None, ap, sym, ◌∙◌, arith}
-use Rattle.std.specs.Option.{unwrap_or}
-use Rattle.basic_toml_tokens.specs.Text.{text_at, after_run, is_keylike}
-use Rattle.basic_toml_tokens.proofs.SpacesAreRuns.{after_twice}
-use Rattle.basic_toml_grammar.specs.Grammar.{is_wordlike}
-use Rattle.basic_toml_explain.proofs.TakenTokenStands.{run_within}
-use Rattle.basic_toml_read.specs.AtPlace.{IsJoint}
-use Rattle.basic_toml_read.proofs.front.end_of_word.Goals.{then-at-from, else-at-from}
+use Rattle.basic_toml_read.proofs.Common.{◌≡◌, refl, ◌≤◌, ℕ, List, Option, Some, None, ap, sym, ◌∙◌, arith, text_at}
+use Rattle.basic_toml_read.proofs.Common.{after_run, is_keylike, after_twice, is_wordlike, IsJoint}
 use Rattle.basic_toml_read.proofs.front.end_of_word.Goals as goal
+use Rattle.std.specs.Option.{unwrap_or}
+use Rattle.basic_toml_explain.proofs.TakenTokenStands.{run_within}
+use Rattle.basic_toml_read.proofs.front.end_of_word.Goals.{then-at-from, else-at-from}
 
 -- behind a period or a plus that stands first, or where it stands
 start_is : (bytes : List ℕ) (from : ℕ) (joint : Option ℕ) → IsJoint bytes from joint

@@ -1,7 +1,5 @@
-use Rattle.std.proofs.Common.{◌≡◌, ◌≤◌, ◌-◌, length}
-use Rattle.std.specs.Str.{IsCharBoundary}
-use Rattle.basic_toml_tokens.specs.Text.{text_at, after_run, is_keylike}
-use Rattle.basic_toml_grammar.specs.Grammar.{is_wordlike}
+use Rattle.basic_toml_read.proofs.Common.{◌≡◌, ◌≤◌, ◌-◌, length, IsCharBoundary, text_at, after_run, is_keylike}
+use Rattle.basic_toml_read.proofs.Common.{is_wordlike}
 use Rattle.basic_toml_read.proofs.front.end_of_word.Given as goal
 
 abbrev pub invariant-loop-next : goal.invariant-loop-next

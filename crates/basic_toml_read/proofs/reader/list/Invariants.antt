@@ -1,7 +1,6 @@
-use Rattle.std.proofs.Common.{◌≡◌, map}
-use Rattle.basic_toml_read.specs.SectionView.{section_of}
-use Rattle.basic_toml_read.specs.SectionsRead.{IsEmpty, IsReady, SoFar, left_to_read}
+use Rattle.basic_toml_read.proofs.Common.{◌≡◌, map, section_of, IsEmpty, SoFar, left_to_read}
 use Rattle.basic_toml_read.proofs.reader.list.Given as goal
+use Rattle.basic_toml_read.specs.SectionsRead.{IsReady}
 
 abbrev pub invariant-loop-section : goal.invariant-loop-section
 invariant-loop-section l =

@@ -1,12 +1,10 @@
-use Rattle.std.proofs.Common.{refl}
+use Rattle.basic_toml_read.proofs.Common.{refl, text_at, MissesString}
+use Rattle.basic_toml_grammar.specs.Sections as sections
+use Rattle.basic_toml_read.proofs.scalar.any_string_value_at.Goals as goal
 use Rattle.std.specs.Cow.{cow_str_bytes}
 use Rattle.basic_toml_tokens.specs.String.{is_owned}
-use Rattle.basic_toml_grammar.specs.Sections as sections
-use Rattle.basic_toml_tokens.specs.Text.{text_at}
 use Rattle.basic_toml_explain.specs.declared.stop.Why.TheVariants.{Value}
-use Rattle.basic_toml_read.specs.StopsAt.{MissesString}
 use Rattle.basic_toml_read.proofs.ScalarsRead.{string_to, refused_by}
-use Rattle.basic_toml_read.proofs.scalar.any_string_value_at.Goals as goal
 
 pub returns-in-Ok-clause-read : goal.returns-in-Ok-clause-read
 returns-in-Ok-clause-read c = record {

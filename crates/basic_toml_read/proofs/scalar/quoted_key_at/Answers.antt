@@ -1,9 +1,7 @@
-use Rattle.std.proofs.Common.{None, refl}
-use Rattle.basic_toml_tokens.specs.Text.{text_at}
-use Rattle.basic_toml_explain.specs.declared.stop.Why.TheVariants.{Key}
-use Rattle.basic_toml_read.specs.StopsAt.{MissesKey}
-use Rattle.basic_toml_read.proofs.ScalarsRead.{key_by_string, refused_by, string_key}
+use Rattle.basic_toml_read.proofs.Common.{None, refl, text_at, MissesKey}
 use Rattle.basic_toml_read.proofs.scalar.quoted_key_at.Goals as goal
+use Rattle.basic_toml_explain.specs.declared.stop.Why.TheVariants.{Key}
+use Rattle.basic_toml_read.proofs.ScalarsRead.{key_by_string, refused_by, string_key}
 
 pub returns-in-Ok-clause-read : goal.returns-in-Ok-clause-read
 returns-in-Ok-clause-read c =

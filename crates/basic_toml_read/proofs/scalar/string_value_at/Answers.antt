@@ -1,8 +1,7 @@
-use Rattle.std.proofs.Common.{false, sym, rules}
+use Rattle.basic_toml_read.proofs.Common.{false, sym, rules, the_lemmas}
 use Rattle.basic_toml_grammar.specs.Sections as sections
-use Rattle.basic_toml_read.specs.declared.section.Raw.{the_lemmas}
-use Rattle.basic_toml_read.proofs.ScalarsRead.{string_to}
 use Rattle.basic_toml_read.proofs.scalar.string_value_at.Goals as goal
+use Rattle.basic_toml_read.proofs.ScalarsRead.{string_to}
 
 pub returns-in-Some-clause-read : goal.returns-in-Some-clause-read
 returns-in-Some-clause-read c = record {

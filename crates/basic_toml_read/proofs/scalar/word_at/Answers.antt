@@ -1,18 +1,14 @@
-use Rattle.std.proofs.Common.{refl, ap, sym, ◌∙◌, arith, rules, length, ◌≡◌, ◌≤◌, ◌+◌}
+use Rattle.basic_toml_read.proofs.Common.{refl, ap, sym, ◌∙◌, arith, rules, length, ◌≡◌, ◌≤◌, ◌+◌, text_at, between}
+use Rattle.basic_toml_read.proofs.Common.{Raw, the_lemmas, word_value}
+use Rattle.basic_toml_read.proofs.scalar.word_at.Goals as goal
 use Rattle.std.specs.Option.{option_map}
 use mir.Syntax.{w64}
 use mir.Val.{SFits}
 use Rattle.std.proofs.lemmas.Int.{to_z-of_z}
-use Rattle.basic_toml_tokens.specs.Text.{text_at}
-use Rattle.basic_toml_tokens.specs.Reading.{between}
-use Rattle.basic_toml_grammar.specs.Sections.{Raw}
-use Rattle.basic_toml_read.specs.declared.section.Raw.{the_lemmas}
 use Rattle.basic_toml_read.specs.Word.{raw_of}
 use Rattle.basic_toml_read.proofs.WordIsRead.{digits_here, word_missing, word_run, word_stands}
 use Rattle.basic_toml_explain.proofs.TakenTokenStands.{run_over}
-use Rattle.basic_toml_grammar.specs.Grammar.{word_value}
 use Rattle.basic_toml_read.proofs.scalar.word_at.Goals.{in-Some+else-ends_word, in-None}
-use Rattle.basic_toml_read.proofs.scalar.word_at.Goals as goal
 
 pub returns-then-at-after-clause-read : goal.returns-then-at-after-clause-read
 returns-then-at-after-clause-read c =

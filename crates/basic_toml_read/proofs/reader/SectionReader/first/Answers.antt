@@ -1,12 +1,9 @@
-use Rattle.std.proofs.Common.{◌≡◌, [], length, refl, ap, sym, ◌∙◌, arith}
-use Rattle.std.specs.Vec.{vec_len}
-use Rattle.basic_toml_grammar.specs.Grammar.{with_root}
-use Rattle.basic_toml_read.specs.Gathers.{Lines, lines_of, lines_view}
-use Rattle.basic_toml_read.specs.SectionsRead.{left_at, left_to_read}
+use Rattle.basic_toml_read.proofs.Common.{◌≡◌, [], length, refl, ap, sym, ◌∙◌, arith, vec_len, with_root, Lines}
+use Rattle.basic_toml_read.proofs.Common.{lines_of, lines_view, left_at, left_to_read}
+use Rattle.basic_toml_read.proofs.reader.SectionReader.first.Goals as goal
 use Rattle.basic_toml_read.proofs.StandsIn.{is_err}
 use Rattle.basic_toml_read.proofs.ListsRead.{bracket_stands, root_stops, root_there, root_none, left_from}
 use Rattle.basic_toml_read.proofs.SectionsHandedOut.{none_in, stops_on, rooted}
-use Rattle.basic_toml_read.proofs.reader.SectionReader.first.Goals as goal
 
 pub returns-in_err-bracket : goal.returns-in_err-bracket
 returns-in_err-bracket c =

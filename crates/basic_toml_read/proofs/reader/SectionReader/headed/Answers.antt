@@ -1,12 +1,9 @@
-use Rattle.std.proofs.Common.{refl, ap, ◌∙◌, arith, ◌+◌}
-use Rattle.std.specs.Str.{IsCharBoundary}
-use Rattle.basic_toml_read.specs.Gathers.{lines_view}
-use Rattle.basic_toml_read.specs.SectionsRead.{left_at, left_to_read}
-use Rattle.basic_toml_read.specs.declared.reader.Place.TheVariants.{Behind}
+use Rattle.basic_toml_read.proofs.Common.{refl, ap, ◌∙◌, arith, ◌+◌, IsCharBoundary, lines_view, left_at, left_to_read}
+use Rattle.basic_toml_read.proofs.Common.{Behind}
+use Rattle.basic_toml_read.proofs.reader.SectionReader.headed.Goals as goal
 use Rattle.basic_toml_read.proofs.StandsIn.{is_err}
 use Rattle.basic_toml_read.proofs.ListsRead.{bracket_stands, list_more, list_over, list_stops, left_from}
 use Rattle.basic_toml_read.proofs.SectionsHandedOut.{none_in, stops_on}
-use Rattle.basic_toml_read.proofs.reader.SectionReader.headed.Goals as goal
 
 -- the end of the text
 pub returns-in_default : goal.returns-in_default

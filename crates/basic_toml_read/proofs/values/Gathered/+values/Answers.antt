@@ -1,15 +1,12 @@
-use Rattle.std.proofs.Common.{[], append-nil, Some, ◌≡◌, length, sym, ap, Err, refl, arith, rules, ◌∙◌}
-use Rattle.basic_toml_tokens.specs.Text.{text_at}
+use Rattle.basic_toml_read.proofs.Common.{[], append-nil, Some, ◌≡◌, length, sym, ap, Err, refl, arith, rules, ◌∙◌}
+use Rattle.basic_toml_read.proofs.Common.{text_at, HoleInElements, HoleInFieldsOn, HoleInRow, hole_behind, elements_of}
+use Rattle.basic_toml_read.proofs.Common.{fields_of, fields_on_of, Lines, no_lines, lines_of, lines_view, elements_view}
+use Rattle.basic_toml_read.proofs.Common.{Elements, Raw, in_elements, in_fields, in_row}
+use Rattle.basic_toml_grammar.proofs.Nesting.WithinTheLimit as within
+use Rattle.basic_toml_read.proofs.values.Gathered.+values.Goals as goal
 use Rattle.basic_toml_grammar.specs.DeepStops.{keys, this_brace, this_bracket, this_element, this_field, elements}
 use Rattle.basic_toml_grammar.specs.DeepStops.{fields}
-use Rattle.basic_toml_grammar.specs.Holes.{HoleInElements, HoleInFields, HoleInFieldsOn, HoleInRow}
-use Rattle.basic_toml_explain.specs.StopHoles.{hole_behind}
-use Rattle.basic_toml_read.specs.FrontOf.{elements_of, fields_of, fields_on_of}
-use Rattle.basic_toml_read.specs.Gathers.{Lines, no_lines, lines_of, lines_view}
-use Rattle.basic_toml_read.specs.SectionView.{elements_view}
-use Rattle.basic_toml_grammar.specs.Sections.{Elements, Raw}
-use Rattle.basic_toml_read.specs.StopsReached.{in_elements, in_fields, in_row}
-use Rattle.basic_toml_grammar.proofs.Nesting.WithinTheLimit as within
+use Rattle.basic_toml_grammar.specs.Holes.{HoleInFields}
 use Rattle.basic_toml_read.proofs.StandsIn.{same_deep, stays_in, is_err, at_deep, key_stops_on, moved_in, stop_in_whole}
 use Rattle.basic_toml_read.proofs.StandsIn.{then_in}
 use Rattle.basic_toml_read.proofs.LeftAfter.{sign_missing, sign_there}
@@ -23,7 +20,6 @@ use Rattle.basic_toml_read.proofs.AfterKeys.{keys_missed, no_equals, row_there, 
 use Rattle.basic_toml_read.proofs.InBrackets.{added_to, array_answered, inline_answered}
 use Rattle.basic_toml_read.proofs.ViewsSeen.{array_of, lines_none}
 use Rattle.basic_toml_read.proofs.ScalarValues.{string_answered, word_answered}
-use Rattle.basic_toml_read.proofs.values.Gathered.+values.Goals as goal
 
 -- elements
 pub elements-loop-end-init : goal.elements-loop-end-init

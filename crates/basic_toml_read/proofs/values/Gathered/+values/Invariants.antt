@@ -1,8 +1,7 @@
-use Rattle.std.proofs.Common.{◌+◌, ◌-◌, ◌*◌, length}
-use Rattle.basic_toml_value.specs.Nesting.{nesting_limit}
+use Rattle.basic_toml_read.proofs.Common.{◌+◌, ◌-◌, ◌*◌, length, nesting_limit}
+use Rattle.basic_toml_read.proofs.values.Gathered.+values.Given as goal
 use Rattle.basic_toml_read.proofs.ElementsGathered.{ElementsSoFar}
 use Rattle.basic_toml_read.proofs.FieldsGathered.{FieldsSoFar}
-use Rattle.basic_toml_read.proofs.values.Gathered.+values.Given as goal
 
 abbrev pub decreases-value : goal.decreases-value
 decreases-value l = 4 * (nesting_limit + 1 - l.level)

@@ -1,14 +1,10 @@
-use Rattle.std.proofs.Common.{◌+◌, ◌-◌, ◌<◌, [], ◌∷◌, ◌++◌, map, append_assoc, append-nil, ap, arith, refl, sym, ◌∙◌}
-use Rattle.std.proofs.Common.{Err}
-use Rattle.std.proofs.lemmas.List.{length-map}
-use Rattle.basic_toml_value.specs.Nesting.{nesting_limit}
-use Rattle.basic_toml_tokens.specs.Text.{text_at}
+use Rattle.basic_toml_read.proofs.Common.{◌+◌, ◌-◌, ◌<◌, [], ◌∷◌, ◌++◌, map, append_assoc, append-nil, ap, arith, refl}
+use Rattle.basic_toml_read.proofs.Common.{sym, ◌∙◌, Err, length-map, nesting_limit, text_at, key_of}
+use Rattle.basic_toml_read.proofs.values.Gathered.keys.Goals as goal
 use Rattle.basic_toml_read.specs.declared.section.Key.{Key}
-use Rattle.basic_toml_read.specs.SectionView.{key_of}
 use Rattle.basic_toml_read.proofs.StandsIn.{is_err}
 use Rattle.basic_toml_read.proofs.KeysTold.{key_too_deep, no_key, told_start, told_more, told_last}
 use Rattle.basic_toml_read.proofs.LeftAfter.{sign_missing}
-use Rattle.basic_toml_read.proofs.values.Gathered.keys.Goals as goal
 
 pub loop-keyed-init : goal.loop-keyed-init
 loop-keyed-init c = record {

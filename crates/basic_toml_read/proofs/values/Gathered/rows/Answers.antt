@@ -1,18 +1,13 @@
-use Rattle.std.proofs.Common.{◌≡◌, refl, sym, ◌∙◌, ap, arith, None, Err}
-use Rattle.basic_toml_tokens.specs.Punctuation.{IsPunctuationEnd}
-use Rattle.basic_toml_tokens.specs.Text.{text_at, is_comment}
-use Rattle.basic_toml_grammar.specs.Grammar.{after_comment_by}
-use Rattle.basic_toml_grammar.specs.Reader.{end_of, line_end_at}
+use Rattle.basic_toml_read.proofs.Common.{◌≡◌, refl, sym, ◌∙◌, ap, arith, None, Err, IsPunctuationEnd, text_at}
+use Rattle.basic_toml_read.proofs.Common.{is_comment, after_comment_by, end_of, line_end_at, rows_of, no_lines}
+use Rattle.basic_toml_read.proofs.values.Gathered.rows.Goals as goal
 use Rattle.basic_toml_read.proofs.StandsIn.{is_err, same_deep, stays_in}
 use Rattle.basic_toml_read.proofs.GoesOn.{after_none}
 use Rattle.basic_toml_read.proofs.LinesGathered.{lines_start}
-use Rattle.basic_toml_read.specs.FrontOf.{rows_of}
-use Rattle.basic_toml_read.specs.Gathers.{no_lines}
 use Rattle.basic_toml_read.proofs.LeftAfter.{line_of, no_comment}
 use Rattle.basic_toml_read.proofs.RowsRead.{NoHeader, bracket_no_gap, comment_stops, line_here, row_stops, rows_bracket}
 use Rattle.basic_toml_read.proofs.RowsRead.{rows_empty, rows_more, rows_over, sign_stands, unended_stops}
 use Rattle.basic_toml_read.proofs.values.Gathered.rows.Goals.{After-after_comment, Else-is_some, Else-is_some-2}
-use Rattle.basic_toml_read.proofs.values.Gathered.rows.Goals as goal
 use Rattle.basic_toml_explain.proofs.NumberFaultIsFound.{none_from}
 
 -- a line without a header

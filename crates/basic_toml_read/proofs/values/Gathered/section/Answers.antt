@@ -1,13 +1,10 @@
-use Rattle.std.proofs.Common.{◌≡◌, length, ap, arith, rules, refl, sym, ◌∙◌}
-use Rattle.basic_toml_tokens.specs.Text.{text_at}
+use Rattle.basic_toml_read.proofs.Common.{◌≡◌, length, ap, arith, rules, refl, sym, ◌∙◌, text_at, HoleInSections}
+use Rattle.basic_toml_read.proofs.Common.{header_of, in_header, in_sections}
+use Rattle.basic_toml_read.proofs.values.Gathered.section.Goals as goal
 use Rattle.basic_toml_grammar.specs.DeepStops.{header, this_section}
-use Rattle.basic_toml_grammar.specs.Holes.{HoleInSections}
-use Rattle.basic_toml_read.specs.FrontOf.{header_of}
-use Rattle.basic_toml_read.specs.StopsReached.{in_header, in_sections}
 use Rattle.basic_toml_read.proofs.StandsIn.{is_err, at_deep, moved_in, stops_on, then_in}
 use Rattle.basic_toml_read.proofs.NothingTooDeep.{its_header}
 use Rattle.basic_toml_read.proofs.ListsRead.{line_stops, rows_stop, section_there}
-use Rattle.basic_toml_read.proofs.values.Gathered.section.Goals as goal
 
 -- no header
 pub returns-in_err-header : goal.returns-in_err-header
