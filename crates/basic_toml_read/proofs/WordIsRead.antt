@@ -1,23 +1,21 @@
 -- Words as values, against the grammar.
-use Rattle.basic_toml_read.proofs.Common.{◌≡◌, ℕ, suc, ◌+◌, ◌<◌, ◌≤◌, ◌==◌, Bool, true, false, List, ℤ, ◌-◌, [], ◌∷◌}
-use Rattle.basic_toml_read.proofs.Common.{length, take, drop, get_or, refl, ap, sym, ◌∙◌, arith, Option, Some, None}
-use Rattle.basic_toml_read.proofs.Common.{IsUtf8, IsCharBoundary, encodes-IsAscii, and_parts, or_from, length-drop}
-use Rattle.basic_toml_read.proofs.Common.{nat_tests, Text, text_at, run, after_run, between, IsRun, length-between}
-use Rattle.basic_toml_read.proofs.Common.{offset_is, Raw, is_wordlike, word_value, number_value, word_at, Leaves}
+use Rattle.basic_toml_read.proofs.Common.{◌≡◌, ℕ, suc, ◌+◌, ◌<◌, ◌≤◌, Bool, true, false, List, ℤ, ◌-◌, [], ◌∷◌, length}
+use Rattle.basic_toml_read.proofs.Common.{take, drop, get_or, refl, ap, sym, ◌∙◌, arith, Some, None, IsUtf8}
+use Rattle.basic_toml_read.proofs.Common.{IsCharBoundary, encodes-IsAscii, and_parts, or_from, length-drop, nat_tests}
+use Rattle.basic_toml_read.proofs.Common.{Text, text_at, run, after_run, between, IsRun, length-between, offset_is, Raw}
+use Rattle.basic_toml_read.proofs.Common.{is_wordlike, word_value, word_at, Leaves}
 use Rattle.std.proofs.Common.{zero}
-use Rattle.std.specs.Prelude.{position, codes}
-use Rattle.std.specs.Str.{bytes_eq}
 use Rattle.std.specs.List.{list_all, prefix_len}
 use Rattle.std.proofs.lemmas.Str.{IsCharBoundary-after_ascii}
 use Rattle.std.proofs.lemmas.List.{at_drop_more, length-take-le}
 use Rattle.std.proofs.Math.Seq.{take-length}
 use Rattle.std.proofs.lemmas.List.Sums.{prefix_len-drop_yes}
-use Rattle.basic_toml_numbers.specs.Numbers.{is_decimal, integer_of, first_digits, float_of}
+use Rattle.basic_toml_numbers.specs.Numbers.{is_decimal, integer_of, first_digits}
 use Rattle.basic_toml_numbers.proofs.FirstDigits.{are_first}
 use Rattle.basic_toml_tokens.proofs.RestsArePartsOfText.{part_later}
 use Rattle.basic_toml_tokens.proofs.RunsAreFound.{IsRunTest, run_by_bytes}
-use Rattle.basic_toml_grammar.specs.Grammar.{to_period, word_offset}
-use Rattle.basic_toml_read.specs.Word.{offset_by, value_offset}
+use Rattle.basic_toml_grammar.specs.Grammar.{word_offset}
+use Rattle.basic_toml_read.specs.Word.{value_offset}
 use Rattle.basic_toml_read.proofs.GoesOn.{then_from}
 
 -- a run of characters of words, by bytes
@@ -54,6 +52,11 @@ word_run bytes at end whole here l some =
     let long = length-between bytes at end l.forward l.boundary.0 in
     (text, λ none. some (omega (arith, ap length (text ∙ none), long, l.forward)))
 
+offset_same : (start p : ℕ) (t : Text) (v : Raw) → p ≡ start
+    → word_offset v p t ≡ value_offset start start (run is_wordlike t) v
+offset_same start p t (Raw.float f) h = grind (arith, h)
+offset_same start p t _ h = h
+
 -- what the grammar has at a word
 pub word_stands : (bytes : List ℕ) (start end : ℕ) (word : List ℕ) (v : Raw)
     → word ≡ run is_wordlike (text_at bytes start) → (run is_wordlike (text_at bytes start) ≡ [] → ⊥)
@@ -62,15 +65,6 @@ pub word_stands : (bytes : List ℕ) (start end : ℕ) (word : List ℕ) (v : Ra
     ≡ Some (record { offset = value_offset start start word v; value = v; rest = text_at bytes end })
 word_stands bytes start end word v is some rest_is told = rw is (go (text_at bytes start) refl)
   where
-    offset_same : (t : Text) (p : ℕ) (v : Raw) → p ≡ start
-        → word_offset v p t ≡ value_offset start start (run is_wordlike t) v
-    offset_same t p (Raw.float f) h = by (position (λ c. c == 46) (run is_wordlike t))
-      where
-        by : (o : Option ℕ) → p + to_period o ≡ offset_by start start o
-        by None = omega arith
-        by (Some i) = omega arith
-    offset_same t p _ h = h
-
     go : (t : Text) → text_at bytes start ≡ t → word_at t ≡ Some (record {
       offset = value_offset start start (run is_wordlike t) v;
       value = v;
@@ -80,7 +74,7 @@ word_stands bytes start end word v is some rest_is told = rw is (go (text_at byt
     go (x ∷ t) h =
         let there : word_value (run is_wordlike (x ∷ t)) ≡ Some v =
         ap (λ (t : Text). word_value (run is_wordlike t)) (sym h) ∙ ap word_value (sym is) ∙ sym told in
-        then_from _ there ∙ rw (offset_same (x ∷ t) x.0 v (offset_is bytes start x t h), rest_is, h) refl
+        then_from _ there ∙ rw (offset_same start x.0 (x ∷ t) v (offset_is bytes start x t h), rest_is, h) refl
 
 pub word_missing : (t : Text) → word_value (run is_wordlike t) ≡ None → word_at t ≡ None
 word_missing [] e = refl
@@ -112,9 +106,7 @@ digits_value : (word : List ℕ) (z : ℤ) → 0 < length word → list_all is_d
 digits_value [] z some all is = absurd (omega (arith, some))
 digits_value (c ∷ cs) z some all is =
     let first : is_decimal c ≡ true = (and_parts (is_decimal c) (list_all is_decimal cs) all).0 in
-    let no_true : bytes_eq (c ∷ cs) (codes "true") ≡ false = grind (arith, nat_tests, first) in
-    let no_false : bytes_eq (c ∷ cs) (codes "false") ≡ false = grind (arith, nat_tests, first) in
-    rw no_true (rw no_false (ap (λ o. number_value o (float_of (c ∷ cs))) (sym is)))
+    grind (arith, nat_tests, first, is)
 
 -- digits that the text has at an offset, and the word that they belong to
 pub record HasDigits (bytes : List ℕ) (at count : ℕ) (z : ℤ) : Type 0 where
