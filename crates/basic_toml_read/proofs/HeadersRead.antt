@@ -4,7 +4,7 @@ use Rattle.basic_toml_read.proofs.Common.{Some, None, Ok, ◌+◌, length, map, 
 use Rattle.basic_toml_read.proofs.Common.{nesting_limit, Text, StartsWith, after_blanks, text_at, IsPunctuationEnd, Key}
 use Rattle.basic_toml_read.proofs.Common.{and_then, IsKeys, DeepKeys, DeepHeader, Hole, HoleInKeys, char_at}
 use Rattle.basic_toml_read.proofs.Common.{StopsInside, Stop, Newline, AtDeep, in_header, Leaves, keys_of, header_of}
-use Rattle.basic_toml_read.proofs.Common.{ClosesAt, key_of, Misses, sign_read, then_some}
+use Rattle.basic_toml_read.proofs.Common.{ClosesAt, key_of, Misses, sign_read}
 use Rattle.basic_toml_grammar.specs.Reader as reader
 use Rattle.basic_toml_explain.specs.declared.stop.Why.TheVariants as why
 use Rattle.basic_toml_grammar.proofs.Nesting.WithinTheLimit as within
@@ -28,6 +28,11 @@ ending p true keys rest =
 
 abbrev pub closing : ℕ → Bool → List Key × Text → Option reader.Headed
 closing p is_array keys = and_then (char_at 93 (after_blanks keys.1)) (λ close. ending p is_array keys.0 close.1)
+
+keys_kept : (p : ℕ) (a : Bool) (keys : List Key × Text) (h : reader.Headed) → closing p a keys ≡ Some h
+    → keys.0 ≡ h.keys
+keys_kept p false keys h e = grind (arith, e)
+keys_kept p true keys h e = grind (arith, e)
 
 -- the brackets of a header, up to its first key
 pub record Opened (bytes : List ℕ) (at start : ℕ) (is_array : Bool) : Type 0 where
@@ -90,19 +95,12 @@ module _ {bytes : List ℕ} {at start : ℕ} {is_array : Bool} (b : Opened bytes
       → HeaderStops bytes at stop
   no_header_keys stop e = record {
     read = misses_on stop.why (keys_of (text_at bytes start)) (closing at is_array) _ _ b.is
-        (λ keys h f high. let (close, close_is, g) = then_some (char_at 93 (after_blanks keys.1)) _ h f in
-        omega (arith, high, ap length (keys_kept is_array keys.0 close.1 h g)))
-        e.read;
+        (λ keys h f high. omega (arith, high, ap length (keys_kept at is_array keys h f))) e.read;
     inside = e.inside;
     deep = at_deep stop.why stop.at _ e.read b.deep.leads (λ none. b.deep.backs) e.deep;
     hole = λ some. key_stops_on (text_at bytes start) (in_header (text_at bytes at)) b.key stop.why
         (text_at bytes stop.at) e.hole;
   }
-    where
-      keys_kept : (a : Bool) (keys : List Key) (rest : Text) (h : reader.Headed) → ending at a keys rest ≡ Some h
-          → keys ≡ h.keys
-      keys_kept false keys rest h e = cc
-      keys_kept true keys rest h e = grind (arith, e)
 
   module _ {found : HeaderKeys} (k : AreHeaderKeys bytes start found) where
     by_keys : header_of (text_at bytes at)

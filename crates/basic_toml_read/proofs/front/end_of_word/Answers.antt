@@ -1,16 +1,8 @@
-use Rattle.basic_toml_read.proofs.Common.{◌≡◌, refl, ◌≤◌, ℕ, List, Option, Some, None, ap, sym, ◌∙◌, arith, text_at}
-use Rattle.basic_toml_read.proofs.Common.{after_run, is_keylike, after_twice, is_wordlike, IsJoint}
+use Rattle.basic_toml_read.proofs.Common.{◌≡◌, refl, ◌≤◌, ap, sym, ◌∙◌, arith, text_at, after_run, is_keylike}
+use Rattle.basic_toml_read.proofs.Common.{after_twice, is_wordlike}
 use Rattle.basic_toml_read.proofs.front.end_of_word.Goals as goal
-use Rattle.std.specs.Option.{unwrap_or}
 use Rattle.basic_toml_explain.proofs.TakenTokenStands.{run_within}
 use Rattle.basic_toml_read.proofs.front.end_of_word.Goals.{then-at-from, else-at-from}
-
--- behind a period or a plus that stands first, or where it stands
-start_is : (bytes : List ℕ) (from : ℕ) (joint : Option ℕ) → IsJoint bytes from joint
-    → (after_run is_wordlike (text_at bytes (unwrap_or joint from)) ≡ after_run is_wordlike (text_at bytes from))
-    × (from ≤ unwrap_or joint from)
-start_is bytes from None is = (refl, omega arith)
-start_is bytes from (Some next) is = (sym is.0, omega (arith, is.2))
 
 pub loop-next-init : goal.loop-next-init
 loop-next-init c =
@@ -20,8 +12,7 @@ loop-next-init c =
     let at = c.if-at-from.start in
     let start : (after_run is_wordlike (text_at text at) ≡ after_run is_wordlike (text_at text from)) × (from ≤ at) =
     elim c.if-at-from.branch [
-      | then-at-from w ↦ rw (w.start-is ∙ w.unwrap_or-start.ensures)
-          (start_is text from w.after_joint.result w.after_joint.ensures)
+      | then-at-from w ↦ grind (arith, w.start-is, w.unwrap_or-start.ensures, w.after_joint.ensures)
       | else-at-from w ↦ rw w.start-is (refl, omega arith)
     ] in
     record {
