@@ -15,10 +15,10 @@ loop-next-init c =
 pub loop-next-preserved : goal.loop-next-preserved
 loop-next-preserved c =
     let line = c.end_of_line-end-in-Some.ensures in
+    let text = text_at c.args.text.now c.in-Some.next in
     record {
-      rest = ap (after_gap is_comment) line.left ∙ gap_past_line (text_at c.args.text.now c.in-Some.next) ∙
-          gap_past_feed c.in-Some.ensures.0 ∙ c.loop-next.invariant.rest;
-      line = (text_at c.args.text.now c.in-Some.next, line.left);
+      rest = cc (line.left, gap_past_line text, gap_past_feed c.in-Some.ensures.0, c.loop-next.invariant.rest);
+      line = (text, line.left);
       boundary = line.boundary;
       forward = omega (arith, line.forward, c.in-Some.ensures.2);
     }

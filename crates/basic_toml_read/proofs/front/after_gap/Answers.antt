@@ -19,8 +19,7 @@ loop-next-preserved c =
     let text = text_at c.args.text.now c.in-Some.next in
     let blanks = c.after_blanks-end-in-Some.ensures in
     record {
-      rest = ap (after_gap is_comment) blanks.left ∙ gap_past_blanks text ∙ gap_past_feed c.in-Some.ensures.0 ∙
-          c.loop-next.invariant.rest;
+      rest = cc (blanks.left, gap_past_blanks text, gap_past_feed c.in-Some.ensures.0, c.loop-next.invariant.rest);
       bare = ap after_blanks blanks.left ∙ after_twice is_blank text ∙ sym blanks.left;
       boundary = blanks.boundary;
       forward = omega (arith, blanks.forward, c.in-Some.ensures.2);
@@ -30,8 +29,7 @@ pub returns-in-None : goal.returns-in-None
 returns-in-None c =
     let i = c.loop-next.invariant in
     record {
-      left = sym (gap_stands (text_at c.args.text.now c.loop-next.end) i.bare c.in_default.ensures c.in-None.ensures) ∙
-          i.rest;
+      left = cc (gap_stands _ i.bare c.in_default.ensures c.in-None.ensures, i.rest);
       boundary = i.boundary;
       forward = i.forward;
     }

@@ -1,5 +1,5 @@
-use Rattle.basic_toml_read.proofs.Common.{◌≡◌, refl, ◌≤◌, ap, sym, ◌∙◌, arith, text_at, after_run, is_keylike}
-use Rattle.basic_toml_read.proofs.Common.{after_twice, is_wordlike}
+use Rattle.basic_toml_read.proofs.Common.{◌≡◌, refl, ◌≤◌, arith, text_at, after_run, is_keylike, after_twice}
+use Rattle.basic_toml_read.proofs.Common.{is_wordlike}
 use Rattle.basic_toml_read.proofs.front.end_of_word.Goals as goal
 use Rattle.basic_toml_explain.proofs.TakenTokenStands.{run_within}
 use Rattle.basic_toml_read.proofs.front.end_of_word.Goals.{then-at-from, else-at-from}
@@ -16,11 +16,8 @@ loop-next-init c =
       | else-at-from w ↦ rw w.start-is (refl, omega arith)
     ] in
     record {
-      rest =
-          ap (after_run is_wordlike) run.rest ∙ run_within (text_at text c.if-at-from.start) ∙ start.0 ∙
-          c.requires.same_rest;
-      word = ap (after_run is_keylike) run.rest ∙ after_twice is_keylike (text_at text c.if-at-from.start) ∙
-          sym run.rest;
+      rest = cc (run.rest, run_within (text_at text at), start.0, c.requires.same_rest);
+      word = cc (run.rest, after_twice is_keylike (text_at text at));
       boundary = run.boundary;
       forward = omega (arith, run.forward, start.1, c.requires.forward);
     }
@@ -30,9 +27,8 @@ loop-next-preserved c =
     let run = c.end_of_run-end-in-Some.ensures.run in
     let text = text_at c.args.text.now c.in-Some.next in
     record {
-      rest = ap (after_run is_wordlike) run.rest ∙ run_within text ∙ sym c.in-Some.ensures.0 ∙
-          c.loop-next.invariant.rest;
-      word = ap (after_run is_keylike) run.rest ∙ after_twice is_keylike text ∙ sym run.rest;
+      rest = cc (run.rest, run_within text, c.in-Some.ensures.0, c.loop-next.invariant.rest);
+      word = cc (run.rest, after_twice is_keylike text);
       boundary = run.boundary;
       forward = omega (arith, run.forward, c.in-Some.ensures.2);
     }
