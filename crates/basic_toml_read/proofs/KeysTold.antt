@@ -15,6 +15,7 @@ use Rattle.basic_toml_read.proofs.StandsIn.{SameDeep, same_deep, then_deep}
 use Rattle.basic_toml_read.proofs.EnoughSteps.{keys_is}
 use Rattle.basic_toml_read.proofs.GoesOn.{after, after_from, after_none, after_one, found_from, then_from}
 use Rattle.basic_toml_read.proofs.LeftAfter.{sign_there, sign_missing}
+use Rattle.std.proofs.Common.{rules}
 
 -- what the keys are where the first of them is read
 keys_by_key : (text : Text) (k : Key) (mid : Text) (o : Option (ℕ × Text)) → key_at text ≡ Some (k, mid)
@@ -37,15 +38,9 @@ pub record KeysTold (bytes : List ℕ) (at first offset level : ℕ) (front : Li
 
 pub told_start : (bytes : List ℕ) (at first : ℕ) → first ≤ nesting_limit → IsCharBoundary bytes at
     → KeysTold bytes at first at first []
-told_start bytes at first low b = record {
-  told = after_none (keys_of (text_at bytes at));
-  level_is = omega arith;
-  low = omega arith;
-  boundary = b;
-  forward = omega arith;
-  deep = same_deep;
-  holes = λ there d. d;
-}
+told_start bytes at first low b =
+    let told = after_none (keys_of (text_at bytes at)) in
+    search (rules, same_deep)
 
 -- what is known of a stop in keys, where so many are too many
 abbrev pub KeysStop : List ℕ → ℕ → ℕ → (ℕ → Type 0) → Stop → Type 0

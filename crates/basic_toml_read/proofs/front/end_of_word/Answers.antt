@@ -3,6 +3,7 @@ use Rattle.basic_toml_read.proofs.Common.{is_wordlike}
 use Rattle.basic_toml_read.proofs.front.end_of_word.Goals as goal
 use Rattle.basic_toml_explain.proofs.TakenTokenStands.{run_within}
 use Rattle.basic_toml_read.proofs.front.end_of_word.Goals.{then-at-from, else-at-from}
+use Rattle.std.proofs.Common.{rules}
 
 pub loop-next-init : goal.loop-next-init
 loop-next-init c =
@@ -15,20 +16,11 @@ loop-next-init c =
       | then-at-from w ↦ grind (arith, w.start-is, w.unwrap_or-start.ensures, w.after_joint.ensures)
       | else-at-from w ↦ rw w.start-is (refl, omega arith)
     ] in
-    record {
-      rest = cc (run.rest, run_within (text_at text at), start.0, c.requires.same_rest);
-      word = cc (run.rest, after_twice is_keylike (text_at text at));
-      boundary = run.boundary;
-      forward = omega (arith, run.forward, start.1, c.requires.forward);
-    }
+    let word = after_twice is_keylike (text_at text at) in
+    let within = run_within (text_at text at) in
+    search rules
 
 pub loop-next-preserved : goal.loop-next-preserved
 loop-next-preserved c =
-    let run = c.end_of_run-end-in-Some.ensures.run in
     let text = text_at c.args.text.now c.in-Some.next in
-    record {
-      rest = cc (run.rest, run_within text, c.in-Some.ensures.0, c.loop-next.invariant.rest);
-      word = cc (run.rest, after_twice is_keylike text);
-      boundary = run.boundary;
-      forward = omega (arith, run.forward, c.in-Some.ensures.2);
-    }
+    grind (arith, run_within text, after_twice is_keylike text)

@@ -1,4 +1,4 @@
-use Rattle.basic_toml_read.proofs.Common.{ap, ◌∙◌, refl, true, false, Err, arith, text_at}
+use Rattle.basic_toml_read.proofs.Common.{ap, ◌∙◌, refl, true, false, Err, text_at}
 use Rattle.basic_toml_read.proofs.header.header_at.Goals as goal
 use Rattle.basic_toml_read.proofs.StandsIn.{is_err}
 use Rattle.basic_toml_read.proofs.EnoughSteps.{header_is}
@@ -6,6 +6,7 @@ use Rattle.basic_toml_read.proofs.GoesOn.{then_from}
 use Rattle.basic_toml_read.proofs.HeadersRead.{Opened, by_bracket, half_closed, no_header_keys, one_bracket}
 use Rattle.basic_toml_read.proofs.HeadersRead.{two_brackets, unclosed}
 use Rattle.basic_toml_read.proofs.header.header_at.Goals.{After-after_blanks, After-after_blanks-in-Some}
+use Rattle.std.proofs.Common.{rules}
 
 one : (c : After-after_blanks) → Opened c.args.text.now c.args.at c.after_blanks.result false
 one c = one_bracket c.after_blanks.ensures c.in_ok-inner.ensures.read c.in-None.ensures
@@ -37,12 +38,8 @@ returns-in_ok-end-in-None-clause-read c =
     let b = one (goal.at.returns-in_ok-end-in-None-clause-read c).After-after_blanks in
     let k = c.in_ok-after-in-None.ensures.read in
     let e = c.in_ok-end-in-None.ensures.read in
-    record {
-      is = by_bracket b k c.in_ok-end-in-None.end e;
-      limit = k.limit;
-      boundary = e.1;
-      later = omega (arith, b.later, k.later, e.2);
-    }
+    let is = by_bracket b k c.in_ok-end-in-None.end e in
+    search rules
 
 -- the header of an array
 pub returns-in_err-after-in-Some : goal.returns-in_err-after-in-Some
@@ -71,9 +68,5 @@ returns-in_ok-end-in-Some-clause-read c =
     let k = c.in_ok-after-in-Some.ensures.read in
     let closes = c.in_ok-last-in-Some.ensures.read in
     let e = c.in_ok-end-in-Some.ensures.read in
-    record {
-      is = by_bracket b k c.in_ok-last-in-Some.last closes ∙ then_from _ e.0;
-      limit = k.limit;
-      boundary = e.1;
-      later = omega (arith, b.later, k.later, closes.2, e.2);
-    }
+    let is = by_bracket b k c.in_ok-last-in-Some.last closes ∙ then_from _ e.0 in
+    search rules
