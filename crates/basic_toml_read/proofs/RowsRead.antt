@@ -20,6 +20,7 @@ use Rattle.basic_toml_read.proofs.GoesOn.{after, after_from, after_one, found_fr
 use Rattle.basic_toml_read.proofs.GoesOn.{then_from}
 use Rattle.basic_toml_read.proofs.StandsIn.{SameDeep, at_deep, then_deep, then_in, StopIn, stops_on}
 use Rattle.basic_toml_read.proofs.LinesGathered.{LinesSoFar, row_first, row_stands, lines_alone, lines_more}
+use Rattle.std.proofs.Common.{rules}
 
 pub record RowsSoFar (bytes : List ℕ) (start level at : ℕ) (old new : Gathered) : Type 0 where
   pub got : Lines
@@ -72,17 +73,9 @@ module _ {bytes : List ℕ} {start level at : ℕ} {old new : Gathered} (s : Row
   rows_to : (rest : Text) {next : Option ℕ} → rows_of (text_at bytes at) ≡ Some (no_rows, rest) → NextAt bytes rest next
       → IsFrom start next → AreRowsRead bytes start level old new next
   unfolding after
-  rows_to rest is ends from = record {
-    added = s.got;
-    rest = rest;
-    is = s.told ∙ after_from _ is ∙ ap (λ (rs : Rows). Some (rs, rest)) (lines_alone s.lines);
-    pushed = s.lines.pushed;
-    some = s.lines.some;
-    elements = s.lines.elements;
-    limit = s.lines.limit;
-    ends = ends;
-    from = from;
-  }
+  rows_to rest is ends from =
+      let there = s.told ∙ after_from _ is ∙ ap (λ (rs : Rows). Some (rs, rest)) (lines_alone s.lines) in
+      search rules
 
   -- at the end of the text
   pub rows_over : length bytes ≤ at → AreRowsRead bytes start level old new None

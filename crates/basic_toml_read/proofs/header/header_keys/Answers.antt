@@ -5,6 +5,7 @@ use Rattle.basic_toml_read.specs.declared.section.Key.{Key}
 use Rattle.basic_toml_read.proofs.StandsIn.{is_err}
 use Rattle.basic_toml_read.proofs.KeysTold.{key_too_deep, no_key, told_start, told_more, told_last}
 use Rattle.basic_toml_read.proofs.LeftAfter.{sign_missing}
+use Rattle.std.proofs.Common.{rules}
 
 pub loop-keyed-init : goal.loop-keyed-init
 loop-keyed-init c =
@@ -25,16 +26,11 @@ returns-in-None-clause-read c =
     let this : Key = record { text = k.key; offset = c.loop-keyed.offset } in
     let read = c.in_ok-keyed.ensures.read in
     let blanks = c.after_blanks-end.ensures in
-    record {
-      mid = text_at c.args.text.now k.end;
-      is = rw (c.in_ok-push.ensures.items, map-append key_of front (this ∷ []))
-          (told_last s k read blanks c.in_ok-raise.ensures c.in-None.ensures);
-      after = blanks.left;
-      over = sign_missing 46 (text_at c.args.text.now c.after_blanks-end.result) c.in-None.ensures;
-      limit = omega (arith, c.in_ok-raise.ensures, simp length-append at (ap length c.in_ok-push.ensures.items));
-      boundary = blanks.boundary;
-      later = omega (arith, s.forward, read.2, blanks.forward);
-    }
+    let is = told_last s k read blanks c.in_ok-raise.ensures c.in-None.ensures in
+    let over = sign_missing 46 (text_at c.args.text.now c.after_blanks-end.result) c.in-None.ensures in
+    let view = map-append key_of front (this ∷ []) in
+    let counted = simp length-append at (ap length c.in_ok-push.ensures.items) in
+    search rules
 
 pub returns-in_err-keyed : goal.returns-in_err-keyed
 returns-in_err-keyed c =

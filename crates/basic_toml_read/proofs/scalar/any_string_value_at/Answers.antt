@@ -1,22 +1,15 @@
 use Rattle.basic_toml_read.proofs.Common.{refl, text_at, MissesString}
-use Rattle.basic_toml_grammar.specs.Sections as sections
 use Rattle.basic_toml_read.proofs.scalar.any_string_value_at.Goals as goal
-use Rattle.std.specs.Cow.{cow_str_bytes}
-use Rattle.basic_toml_tokens.specs.String.{is_owned}
 use Rattle.basic_toml_explain.specs.declared.stop.Why.TheVariants.{Value}
 use Rattle.basic_toml_read.proofs.ScalarsRead.{string_to, refused_by}
+use Rattle.std.proofs.Common.{rules}
 
 pub returns-in-Ok-clause-read : goal.returns-in-Ok-clause-read
-returns-in-Ok-clause-read c = record {
-  raw = sections.Raw.string (cow_str_bytes c.in-Ok.quoted.val) (is_owned c.in-Ok.quoted.val);
-  seen = c.string_of.ensures.value;
-  is =
-      let s = c.in-Ok.ensures in
-      string_to c.args.text.now c.args.at c.utf8.text c.requires.boundary c.in-Ok.quoted.end s.boundary s.string
-      s.spelled s.copied;
-  boundary = c.in-Ok.ensures.boundary;
-  later = c.in-Ok.ensures.forward;
-}
+returns-in-Ok-clause-read c =
+    let s = c.in-Ok.ensures in
+    let is = string_to c.args.text.now c.args.at c.utf8.text c.requires.boundary c.in-Ok.quoted.end s.boundary s.string
+    s.spelled s.copied in
+    search rules
 
 pub returns-in-Err-clause-read : goal.returns-in-Err-clause-read
 returns-in-Err-clause-read c =

@@ -9,6 +9,7 @@ use Rattle.basic_toml_read.specs.Word.{raw_of}
 use Rattle.basic_toml_read.proofs.WordIsRead.{digits_here, word_missing, word_run, word_stands}
 use Rattle.basic_toml_explain.proofs.TakenTokenStands.{run_over}
 use Rattle.basic_toml_read.proofs.scalar.word_at.Goals.{in-Some+else-ends_word, in-None}
+use Rattle.std.proofs.Common.{rules}
 
 pub returns-then-at-after-clause-read : goal.returns-then-at-after-clause-read
 returns-then-at-after-clause-read c =
@@ -31,14 +32,9 @@ returns-clause-read c =
     let word = word_run c.args.text.now c.args.at c.end_of_word-after.result c.utf8.text c.requires l
     c.if-at-after.false in
     let told = sym (ap (option_map raw_of) c.in-Some-2.is) ∙ c.in_ok-value.ensures in
-    record {
-      raw = raw_of c.in-Some-2.value;
-      seen = c.raw.ensures;
-      is = rw c.value_offset.ensures (word_stands c.args.text.now c.args.at c.end_of_word-after.result
-          c.range-word.result.now (raw_of c.in-Some-2.value) (c.range-word.ensures.value ∙ word.0) word.1 l.left told);
-      boundary = l.boundary;
-      later = omega (arith, l.forward, c.if-at-after.false);
-    }
+    let is = word_stands c.args.text.now c.args.at c.end_of_word-after.result c.range-word.result.now
+    (raw_of c.in-Some-2.value) (c.range-word.ensures.value ∙ word.0) word.1 l.left told in
+    search rules
 
 pub overflow_add-end : goal.overflow_add-end
 overflow_add-end c =
@@ -66,11 +62,7 @@ returns-then-ends_word-clause-read c =
     let leaves = here.ends (c.ends_word.ensures c.if-ends_word.true) in
     let word = word_run bytes at (at + count) c.utf8.text c.requires leaves some in
     let fits : SFits w64 z = search rules in
-    record {
-      raw = Raw.integer z;
-      seen = rw (to_z-of_z w64 z fits) (search (rules, the_lemmas));
-      is = word_stands bytes at (at + count) (between bytes at (at + count)) (Raw.integer z) word.0 word.1 leaves.left
-          here.value;
-      boundary = leaves.boundary;
-      later = omega (arith, here.some);
-    }
+    let is = word_stands bytes at (at + count) (between bytes at (at + count)) (Raw.integer z) word.0 word.1 leaves.left
+    here.value in
+    let same = to_z-of_z w64 z fits in
+    search (rules, the_lemmas)

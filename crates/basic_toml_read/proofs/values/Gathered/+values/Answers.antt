@@ -1,7 +1,7 @@
 use Rattle.basic_toml_read.proofs.Common.{[], append-nil, Some, ◌≡◌, length, sym, ap, Err, refl, arith, rules, ◌∙◌}
 use Rattle.basic_toml_read.proofs.Common.{text_at, HoleInElements, HoleInFieldsOn, HoleInRow, hole_behind, elements_of}
-use Rattle.basic_toml_read.proofs.Common.{fields_of, fields_on_of, Lines, no_lines, lines_of, lines_view, elements_view}
-use Rattle.basic_toml_read.proofs.Common.{Elements, Raw, in_elements, in_fields, in_row}
+use Rattle.basic_toml_read.proofs.Common.{fields_of, fields_on_of, Lines, no_lines, lines_of, elements_view, Elements}
+use Rattle.basic_toml_read.proofs.Common.{Raw, in_elements, in_fields, in_row}
 use Rattle.basic_toml_grammar.proofs.Nesting.WithinTheLimit as within
 use Rattle.basic_toml_read.proofs.values.Gathered.+values.Goals as goal
 use Rattle.basic_toml_grammar.specs.DeepStops.{keys, this_brace, this_bracket, this_element, this_field, elements}
@@ -20,23 +20,14 @@ use Rattle.basic_toml_read.proofs.AfterKeys.{keys_missed, no_equals, row_there, 
 use Rattle.basic_toml_read.proofs.InBrackets.{added_to, array_answered, inline_answered}
 use Rattle.basic_toml_read.proofs.ViewsSeen.{array_of, lines_none}
 use Rattle.basic_toml_read.proofs.ScalarValues.{string_answered, word_answered}
+use Rattle.std.proofs.Common.{rules, arith, refl}
 
 -- elements
 pub elements-loop-end-init : goal.elements-loop-end-init
-elements-loop-end-init t c = record {
-  got = [];
-  join = λ es. es;
-  seen = λ more. refl;
-  high = λ es. omega arith;
-  told = after_none (elements_of (text_at c.args.text.now c.args.start));
-  pushed = sym (append-nil c.args.self.now.elements.items);
-  lines = refl;
-  limit = omega arith;
-  boundary = c.requires.1.1.0;
-  forward = omega arith;
-  deep = same_deep;
-  holes = stays_in;
-}
+elements-loop-end-init t c =
+    let told = after_none (elements_of (text_at c.args.text.now c.args.start)) in
+    let pushed = append-nil c.args.self.now.elements.items in
+    search (rules, same_deep, stays_in)
 
 pub elements-loop-end-preserved : goal.elements-loop-end-preserved
 elements-loop-end-preserved t c =
@@ -48,18 +39,11 @@ unfolding after
 elements-returns-in-Some-clause-read t c =
     let s = c.loop-end.invariant in
     let bytes = c.args.text.now in
-    record {
-      added = s.got;
-      is = s.told
-          ∙ after_from _ (elements_is (text_at bytes c.loop-end.at) ∙ found_from _ _ (sign_there c.in-Some.ensures.0))
-          ∙ ap (λ (es : Elements). Some (es, text_at bytes c.in-Some.end))
-          (sym (s.seen []) ∙ ap elements_view (append-nil s.got));
-      pushed = s.pushed;
-      lines = s.lines;
-      limit = s.limit;
-      boundary = c.in-Some.ensures.1;
-      later = omega (arith, s.forward, c.in-Some.ensures.2);
-    }
+    let is = s.told
+    ∙ after_from _ (elements_is (text_at bytes c.loop-end.at) ∙ found_from _ _ (sign_there c.in-Some.ensures.0))
+    ∙ ap (λ (es : Elements). Some (es, text_at bytes c.in-Some.end))
+    (sym (s.seen []) ∙ ap elements_view (append-nil s.got)) in
+    search rules
 
 pub elements-returns-in_err-valued : goal.elements-returns-in_err-valued
 elements-returns-in_err-valued t c =
@@ -201,16 +185,9 @@ array-returns-clause-read t c =
     let old = c.args.self.now.elements in
     let counted : c.len-from.result ≡ length old.items = omega (arith, c.len-from.ensures, old.ok.0) in
     let added = added_to old.items r.added counted r.pushed in
-    record {
-      elements = elements_view r.added;
-      seen = array_of taken.field-0 ∙ ap (λ l. Raw.array (elements_view l)) (taken.ensures.0 ∙ added.0);
-      is = ap elements_of (sym left.left) ∙ r.is;
-      offset_is = refl;
-      limit = (c.in_ok-raise.ensures, r.limit);
-      keeps = record { elements = taken.ensures.1 ∙ added.1; lines = r.lines };
-      boundary = r.boundary;
-      later = omega (arith, left.forward, r.later);
-    }
+    let seen = array_of taken.field-0 ∙ ap (λ l. Raw.array (elements_view l)) (taken.ensures.0 ∙ added.0) in
+    let is = ap elements_of (sym left.left) ∙ r.is in
+    search rules
 
 -- an inline table
 pub inline-returns-in_err-raise-clause-deep : goal.inline-returns-in_err-raise-clause-deep
@@ -235,16 +212,5 @@ inline-returns-clause-read t c =
     (omega (arith, c.len-parents.ensures, old.parents.ok.0)) (ap (λ (l : Lines). l.parents) r.pushed) in
     let rows = added_to {n = c.len-from.result} old.rows.items r.added.rows
     (omega (arith, c.len-from.ensures, old.rows.ok.0)) (ap (λ (l : Lines). l.rows) r.pushed) in
-    record {
-      rows = lines_view r.added;
-      seen = taken.seen ∙ rw (parents.0, rows.0) refl;
-      is = ap fields_of (sym left.left) ∙ r.is;
-      offset_is = refl;
-      limit = (c.in_ok-raise.ensures, r.limit);
-      keeps = record {
-        elements = taken.elements ∙ r.elements;
-        lines = rw (taken.parents_left ∙ parents.1, taken.rows_left ∙ rows.1) refl;
-      };
-      boundary = r.boundary;
-      later = omega (arith, left.forward, r.later);
-    }
+    let is = ap fields_of (sym left.left) ∙ r.is in
+    search rules

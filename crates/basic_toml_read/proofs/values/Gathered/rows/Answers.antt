@@ -1,5 +1,5 @@
-use Rattle.basic_toml_read.proofs.Common.{◌≡◌, refl, sym, ◌∙◌, ap, arith, None, Err, IsPunctuationEnd, text_at}
-use Rattle.basic_toml_read.proofs.Common.{is_comment, after_comment_by, end_of, line_end_at, rows_of, no_lines}
+use Rattle.basic_toml_read.proofs.Common.{◌≡◌, sym, ◌∙◌, ap, arith, None, Err, IsPunctuationEnd, text_at, is_comment}
+use Rattle.basic_toml_read.proofs.Common.{after_comment_by, end_of, line_end_at, rows_of}
 use Rattle.basic_toml_read.proofs.values.Gathered.rows.Goals as goal
 use Rattle.basic_toml_read.proofs.StandsIn.{is_err, same_deep, stays_in}
 use Rattle.basic_toml_read.proofs.GoesOn.{after_none}
@@ -9,6 +9,8 @@ use Rattle.basic_toml_read.proofs.RowsRead.{NoHeader, bracket_no_gap, comment_st
 use Rattle.basic_toml_read.proofs.RowsRead.{rows_empty, rows_more, rows_over, sign_stands, unended_stops}
 use Rattle.basic_toml_read.proofs.values.Gathered.rows.Goals.{After-after_comment, Else-is_some, Else-is_some-2}
 use Rattle.basic_toml_explain.proofs.NumberFaultIsFound.{none_from}
+use Rattle.std.proofs.Common.{rules, refl}
+use Rattle.basic_toml_read.specs.Gathers.{no_lines}
 
 -- a line without a header
 no_header : (c : Else-is_some) → NoHeader c.args.text.now c.loop-at.at c.after_blanks-front.result
@@ -74,13 +76,9 @@ returns-then-is_some c =
     let front = c.after_blanks-front.result in
     let l = line_here text c.loop-at.at front c.utf8.text i.boundary c.loop-at-test.true c.after_blanks-front.ensures in
     let sign = sign_stands 91 text front c.after_punctuation.result c.after_punctuation.ensures c.if-is_some.ensures in
-    record {
-      read = rows_bracket i l sign.0 sign.1;
-      inside = tt;
-      gaps = λ g. absurd (bracket_no_gap i l sign.0 sign.1 g);
-      deep = tt;
-      hole = tt;
-    }
+    let read = rows_bracket i l sign.0 sign.1 in
+    let none = bracket_no_gap i l sign.0 sign.1 in
+    search rules
 
 pub returns-in_err-at : goal.returns-in_err-at
 returns-in_err-at c =
