@@ -5,7 +5,7 @@ use Rattle.basic_toml_read.proofs.Common.{IsCharBoundary, nesting_limit, StartsW
 use Rattle.basic_toml_read.proofs.Common.{IsPunctuationEnd, Elements, no_elements, element, and_then, value_level}
 use Rattle.basic_toml_read.proofs.Common.{char_at, DeepElements, Stop, Why, Element, Valued, Gathered, value_of}
 use Rattle.basic_toml_read.proofs.Common.{elements_of, Leaves, elements_view, Misses, lines_of, IsValueRead, ClosesAt}
-use Rattle.basic_toml_read.proofs.Common.{LeadsTo, in_elements, gap, value_read, Hole, HoleInElements}
+use Rattle.basic_toml_read.proofs.Common.{LeadsTo, in_elements, gap, value_read, Hole, HoleInElements, rules}
 use Rattle.basic_toml_explain.specs.declared.stop.Why.TheVariants as why
 use Rattle.basic_toml_grammar.proofs.Nesting.WithinTheLimit as within
 use Rattle.basic_toml_grammar.specs.Levels.{elements_level}
@@ -13,7 +13,6 @@ use Rattle.basic_toml_grammar.specs.DeepStops.{later_element}
 use Rattle.basic_toml_read.specs.declared.section.Element.{roll-Element}
 use Rattle.basic_toml_read.specs.Gathers.{ReadsElements}
 use Rattle.basic_toml_read.proofs.StandsIn.{Answered, nothing_fits, SameDeep, then_deep, stops_on, then_in}
-use Rattle.basic_toml_read.proofs.StandsIn.{without_stop}
 use Rattle.basic_toml_grammar.specs.Grammar.{IsValue}
 use Rattle.basic_toml_read.proofs.EnoughSteps.{after_value, elements_is}
 use Rattle.basic_toml_read.proofs.GoesOn.{after, after_from, after_one, first_of, found_from, misses_after, then_from}
@@ -131,15 +130,10 @@ module _ {bytes : List ℕ} {start level at : ℕ} {old new : Gathered} (s : Ele
               → Answered bytes (ReadsElements bytes start level old (with_elements mid elements))
               (DeepElements nesting_limit level (text_at bytes start)) (in_elements (text_at bytes start)) result
           unfolding after
-          elements_close (Ok close) closes = without_stop (record {
-            added = s.got ++ element_of v ∷ [];
-            is = rw (view' []) (last_on ∙ after_from _ (then_from _ closes.0));
-            pushed = pushed';
-            lines = r.keeps.lines ∙ s.lines;
-            limit = limit';
-            boundary = closes.1;
-            later = omega (arith, s.forward, r.found.later, left.forward, closes.2);
-          })
+          elements_close (Ok close) closes =
+              let is = last_on ∙ after_from _ (then_from _ closes.0) in
+              let view = view' [] in
+              search (rules, pushed', limit')
           elements_close (Err stop) closes = rw closes.1 (record {
             read = last_on ∙ after_from _ (then_from _ closes.0);
             inside = inr left.boundary;

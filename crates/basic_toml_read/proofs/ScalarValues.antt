@@ -5,7 +5,7 @@ use Rattle.basic_toml_read.proofs.Common.{nesting_limit, Text, text_at, run, Dee
 use Rattle.basic_toml_read.proofs.Common.{number_value, word_value, HoleInValue, value_level, char_at, string_at}
 use Rattle.basic_toml_read.proofs.Common.{word_at, string_value_at, Raw, hole_behind, StopsInside, Stop, Why, Valued}
 use Rattle.basic_toml_read.proofs.Common.{Gathered, value_of, IsValueRead, ReadsValue, MissesString, in_value}
-use Rattle.basic_toml_read.proofs.Common.{then_some}
+use Rattle.basic_toml_read.proofs.Common.{then_some, rules}
 use Rattle.basic_toml_grammar.specs.Reader as reader
 use Rattle.basic_toml_explain.specs.declared.stop.Why.TheVariants as why
 use Rattle.basic_toml_grammar.proofs.Nesting.WithinTheLimit as within
@@ -66,12 +66,9 @@ module _ (bytes : List ℕ) (at level : ℕ) (end : End) (old : Gathered) (brack
   value_wanted : (p : ℕ) → p ≡ at → word_at (text_at bytes at) ≡ None → run is_wordlike (text_at bytes at) ≡ []
       → string_at (text_at bytes at) ≡ None → StopsInside bytes (record { at = p; why = why.Value })
       → ScalarAnswered (Err (record { at = p; why = why.Value }))
-  value_wanted p same no_word empty no_string inside = record {
-    read = missed no_word no_string;
-    inside = inside;
-    deep = nothing_deep;
-    hole = rw same (HoleInValue.this_value, (empty, no_string, bracket, brace));
-  }
+  value_wanted p same no_word empty no_string inside =
+      let read = missed no_word no_string in
+      search (rules, nothing_deep, HoleInValue.this_value)
 
   pub string_answered : (result : Result Valued Stop) → word_at (text_at bytes at) ≡ None
       → run is_wordlike (text_at bytes at) ≡ [] → ReadsStringAt bytes at result

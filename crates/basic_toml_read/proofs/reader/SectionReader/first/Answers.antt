@@ -1,5 +1,5 @@
 use Rattle.basic_toml_read.proofs.Common.{◌≡◌, [], length, refl, ap, sym, ◌∙◌, arith, vec_len, with_root, Lines}
-use Rattle.basic_toml_read.proofs.Common.{lines_of, lines_view, left_at, left_to_read}
+use Rattle.basic_toml_read.proofs.Common.{lines_of, lines_view, left_at, left_to_read, rules}
 use Rattle.basic_toml_read.proofs.reader.SectionReader.first.Goals as goal
 use Rattle.basic_toml_read.proofs.StandsIn.{is_err}
 use Rattle.basic_toml_read.proofs.ListsRead.{bracket_stands, root_stops, root_there, root_none, left_from}
@@ -48,10 +48,7 @@ returns c =
       read = λ list so_far. let first : list ≡ [] = rw c.requires.start at so_far in
           rw (first, c.requires.empty.header, ap lines_view c.hand_out.ensures.handed)
           (rw (rooted mid.parents.items mid.rows.items (rw counted some)) at there);
-      ready = record {
-        within = bracket_stands bytes there.rest _ there.ends;
-        none = c.hand_out.ensures.taken ∙ none_in c.args.section.now c.requires.empty;
-      };
+      ready = let within = bracket_stands bytes there.rest _ there.ends in search (rules, none_in);
       text = refl;
       later = λ e. omega (arith, ap (left_at bytes) c.requires.start, less);
     }

@@ -1,5 +1,5 @@
 use Rattle.basic_toml_read.proofs.Common.{refl, ap, ◌∙◌, arith, ◌+◌, IsCharBoundary, lines_view, left_at, left_to_read}
-use Rattle.basic_toml_read.proofs.Common.{Behind}
+use Rattle.basic_toml_read.proofs.Common.{Behind, rules}
 use Rattle.basic_toml_read.proofs.reader.SectionReader.headed.Goals as goal
 use Rattle.basic_toml_read.proofs.StandsIn.{is_err}
 use Rattle.basic_toml_read.proofs.ListsRead.{bracket_stands, list_more, list_over, list_stops, left_from}
@@ -34,10 +34,7 @@ returns c =
     record {
       read = λ list so_far. rw (ap lines_view c.hand_out.ensures.handed)
           (list_more bytes at list (rw is at so_far) _ _ _ read);
-      ready = record {
-        within = bracket_stands bytes read.rest _ read.ends;
-        none = c.hand_out.ensures.taken ∙ none_in c.args.section.now c.requires.empty;
-      };
+      ready = let within = bracket_stands bytes read.rest _ read.ends in search (rules, none_in);
       text = refl;
       later = λ e. omega (arith, here.0, ap (left_at bytes) is, less);
     }
