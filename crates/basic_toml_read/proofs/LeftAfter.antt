@@ -1,15 +1,11 @@
 -- What is left of a text after blanks, comments, gaps and words.
-use Rattle.basic_toml_read.proofs.Common.{inl, ◌≡◌, ℕ, ◌==◌, true, cond, List, [], ◌∷◌, refl, ap, sym, ◌∙◌, arith}
-use Rattle.basic_toml_read.proofs.Common.{Option, Some, None, is_some, eqb-true, nat_tests, or_from, Text, StartsWith}
-use Rattle.basic_toml_read.proofs.Common.{text_at, run, after_run, is_blank, is_keylike, is_comment, after_blanks}
-use Rattle.basic_toml_read.proofs.Common.{IsPunctuationEnd, after_twice, is_wordlike, after_comment_by, after_gap}
-use Rattle.basic_toml_read.proofs.Common.{char_at, string_at, word_at, end_of, EndsAt, IsJoint}
+use Rattle.basic_toml_read.proofs.Common.{◌≡◌, ℕ, ◌==◌, true, cond, [], ◌∷◌, refl, ap, sym, ◌∙◌, arith, Some, None}
+use Rattle.basic_toml_read.proofs.Common.{eqb-true, nat_tests, or_from, Text, StartsWith, after_run, is_blank}
+use Rattle.basic_toml_read.proofs.Common.{is_keylike, is_comment, after_blanks, after_twice, is_wordlike}
+use Rattle.basic_toml_read.proofs.Common.{after_comment_by, after_gap, char_at, string_at, end_of}
 use Rattle.std.proofs.lemmas.Bool.{eq-eqb}
-use Rattle.basic_toml_tokens.specs.Strings.{is_quote}
-use Rattle.basic_toml_tokens.specs.Quote.{IsFeed}
 use Rattle.basic_toml_tokens.proofs.SpacesAreRuns.{fails_first}
 use Rattle.basic_toml_grammar.specs.Grammar.{after_gap_from}
-use Rattle.basic_toml_read.specs.AtPlace.{BeginsString}
 
 -- a character at the front, and another one
 pub sign_there : {c p : ℕ} {text rest : Text} → StartsWith c text p rest → char_at c text ≡ Some (p, rest)
@@ -24,14 +20,9 @@ no_comment [] e = refl
 no_comment (x ∷ text) e = ap (λ b. cond b (after_run is_comment text) (x ∷ text)) (fails_first (λ x. x == 35) x text e)
 
 -- the end of a line
-no_end : (text : Text) → after_run (λ c. c == 10) text ≡ text → (text ≡ [] → ⊥) → end_of text ≡ None
+pub no_end : (text : Text) → after_run (λ c. c == 10) text ≡ text → (text ≡ [] → ⊥) → end_of text ≡ None
 no_end [] e some = absurd (some refl)
 no_end (x ∷ text) e some = ap (λ b. cond b (Some text) None) (fails_first (λ c. c == 10) x text e)
-
-pub line_goes_on : (bytes : List ℕ) (at : ℕ) (o : Option ℕ) → (text_at bytes at ≡ [] → ⊥) → IsFeed bytes at o
-    → EndsAt bytes at o
-line_goes_on bytes at (Some next) some f = (ap end_of f.0, f.1, omega (arith, f.2), inl f.2)
-line_goes_on bytes at None some e = no_end (text_at bytes at) e some
 
 -- gaps
 pub gap_past_blanks : (text : Text) → after_gap is_comment (after_blanks text) ≡ after_gap is_comment text
@@ -91,25 +82,12 @@ no_joint (x ∷ text) a b k =
     let no_period = fails_first (λ x. x == 46) x text a in
     grind (arith, fails_first is_keylike x text k, fails_first (λ x. x == 43) x text b)
 
-pub joint_there : (bytes : List ℕ) (at : ℕ) (o : Option ℕ)
-    → after_run (λ x. x == 46) (text_at bytes at) ≡ text_at bytes at → IsPunctuationEnd 43 bytes at o
-    → IsJoint bytes at o
-joint_there bytes at None a e = no_joint (text_at bytes at) a e
-joint_there bytes at (Some next) a s = (ap (after_run is_wordlike) s.0, s.1, omega (arith, s.2))
-
 -- strings
 pub no_string : (text : Text) → after_run (λ x. x == 34) text ≡ text → after_run (λ x. x == 39) text ≡ text
     → string_at text ≡ None
 no_string [] a b = refl
 no_string (x ∷ text) a b =
     grind (arith, fails_first (λ x. x == 34) x text a, fails_first (λ x. x == 39) x text b)
-
-pub string_begins : (bytes : List ℕ) (at : ℕ) (o : Option ℕ)
-    → after_run (λ x. x == 34) (text_at bytes at) ≡ text_at bytes at → IsPunctuationEnd 39 bytes at o
-    → BeginsString bytes at (is_some o)
-string_begins bytes at None a e = no_string (text_at bytes at) a e
-string_begins bytes at (Some next) a s =
-    (omega (arith, s.1.0, s.2), ap is_quote s.3, ap word_at s.0, ap (run is_wordlike) s.0)
 
 -- where a gap is all that is left
 pub gap_over : (text next : Text) → end_of text ≡ Some next → after_gap is_comment text ≡ []

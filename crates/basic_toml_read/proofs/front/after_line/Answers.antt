@@ -1,15 +1,11 @@
-use Rattle.basic_toml_read.proofs.Common.{inr, ◌≤◌, length, refl, arith, text_end, over_at_end}
+use Rattle.basic_toml_read.proofs.Common.{arith, text_end, over_at_end, text_at}
 use Rattle.basic_toml_read.proofs.front.after_line.Goals as goal
-use Rattle.basic_toml_read.proofs.LeftAfter.{line_goes_on}
+use Rattle.basic_toml_read.proofs.LeftAfter.{no_end}
 
 pub returns-then-at-text : goal.returns-then-at-text
-returns-then-at-text c =
-    let over : length c.args.text.now ≤ c.args.at = omega arith in
-    (rw (text_end c.args.text.now c.args.at over) refl, c.requires, omega arith, inr over)
+returns-then-at-text c = grind (arith, text_end c.args.text.now c.args.at (omega arith))
 
 pub returns : goal.returns
 returns c =
-    line_goes_on c.args.text.now c.args.at c.after_feed.result
-    (λ e. absurd (c.if-at-text.false
-    (omega (arith, c.requires.0, over_at_end c.args.text.now c.args.at c.utf8.text c.requires e))))
-    c.after_feed.ensures
+    let some = over_at_end c.args.text.now c.args.at c.utf8.text c.requires in
+    grind (arith, some, no_end (text_at c.args.text.now c.args.at), c.after_feed.ensures)

@@ -1,7 +1,8 @@
-use Rattle.basic_toml_read.proofs.LeftAfter.{string_begins}
+use Rattle.basic_toml_read.proofs.LeftAfter.{no_string}
 use Rattle.basic_toml_read.proofs.front.begins_string.Goals as goal
+use Rattle.basic_toml_read.proofs.Common.{arith, text_at}
 
 pub returns-in-None : goal.returns-in-None
 returns-in-None c =
-    rw c.is_some.ensures (string_begins c.args.text.now c.args.at c.after_punctuation-in-None.result c.in-None.ensures
-    c.after_punctuation-in-None.ensures)
+    let none = no_string (text_at c.args.text.now c.args.at) c.in-None.ensures in
+    rw c.is_some.ensures (grind (arith, none, c.after_punctuation-in-None.ensures))
