@@ -9,9 +9,9 @@ use Rattle.basic_toml_read.proofs.Common.{key_of, Misses, keys_read}
 use Rattle.basic_toml_grammar.specs.Reader as reader
 use Rattle.basic_toml_grammar.proofs.Nesting.WithinTheLimit as within
 use Rattle.basic_toml_grammar.specs.DeepStops.{value}
+use Rattle.basic_toml_read.specs.Gathers.{IsLastKey}
 use Rattle.basic_toml_explain.specs.declared.stop.Why.TheVariants.{Equals}
 use Rattle.basic_toml_read.specs.declared.values.LastKey.{LastKey}
-use Rattle.basic_toml_read.specs.Gathers.{IsLastKey}
 use Rattle.basic_toml_read.proofs.StandsIn.{StopIn, nothing_fits, stop_in_whole}
 use Rattle.basic_toml_read.proofs.LeftAfter.{sign_missing, sign_there}
 use Rattle.basic_toml_read.proofs.EnoughSteps.{row_is}

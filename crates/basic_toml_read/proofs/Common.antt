@@ -1,8 +1,8 @@
 -- The names that most proofs here cite, passed on from one place. Declares nothing.
 pub use Rattle.std.proofs.Common.{◌≡◌, ◌≤◌, ◌+◌, ◌-◌, ℕ, suc, List, [], ◌∷◌, ◌++◌, length, refl, ap, sym, ◌∙◌, arith}
 pub use Rattle.std.proofs.Common.{inr, length-append, Some, None, ◌<◌, Option, Vec, Global, ◌*◌, max, append_assoc}
-pub use Rattle.std.proofs.Common.{Result, Ok, Err, true, false, subst, Bool, map, eqb-true, drop, take, inl, ◌==◌, cond}
-pub use Rattle.std.proofs.Common.{is_some, append-nil, get_or, rules, IfErr, ℤ, encode_utf8_all}
+pub use Rattle.std.proofs.Common.{Result, Ok, Err, rules, true, false, subst, Bool, map, eqb-true, drop, take, ◌==◌}
+pub use Rattle.std.proofs.Common.{cond, inl, append-nil, get_or, IfErr, ℤ, encode_utf8_all}
 pub use Rattle.std.proofs.Math.Seq.{drop-append_seam, take-append_seam}
 pub use Rattle.std.proofs.lemmas.Bool.{or_from, and_parts}
 pub use Rattle.std.proofs.lemmas.Bool.Decides.{nat_tests}
@@ -22,17 +22,17 @@ pub use Rattle.basic_toml_grammar.proofs.Grammar.ReaderIsSound.{keys_read, value
 pub use Rattle.basic_toml_grammar.proofs.Grammar.ReaderIsSound.{line_end_read, rows_read, header_read}
 pub use Rattle.basic_toml_grammar.proofs.Grammar.StringsAreRead.{then_some}
 pub use Rattle.basic_toml_grammar.specs.DeepStops.{DeepRow, DeepValue, DeepElements, DeepFields, DeepKeys, DeepHeader}
-pub use Rattle.basic_toml_grammar.specs.DeepStops.{DeepArray, DeepInline, array, inline, DeepStop, DeepRows}
+pub use Rattle.basic_toml_grammar.specs.DeepStops.{array, inline, DeepStop, DeepRows}
 pub use Rattle.basic_toml_grammar.specs.Entering.{and_then}
 pub use Rattle.basic_toml_grammar.specs.Grammar.{IsKeys, with_root, is_wordlike, after_comment_by, after_gap, IsRow}
-pub use Rattle.basic_toml_grammar.specs.Grammar.{IsRows, IsHeader, EndsLine, number_value, word_value}
+pub use Rattle.basic_toml_grammar.specs.Grammar.{IsRows, IsHeader, EndsLine, word_value}
 pub use Rattle.basic_toml_grammar.specs.Holes.{Hole, HoleInRow, HoleInElements, HoleInFieldsOn, HoleInKeys, HoleInValue}
 pub use Rattle.basic_toml_grammar.specs.Holes.{HoleInSections}
 pub use Rattle.basic_toml_grammar.specs.Levels.{value_level, rows_level, highest_level}
 pub use Rattle.basic_toml_grammar.specs.Reader.{char_at, key_at, if_found, Assigned, word_at, string_value_at}
 pub use Rattle.basic_toml_grammar.specs.Reader.{line_end_at, section_list_of, string_at, end_of}
 pub use Rattle.basic_toml_grammar.specs.Sections.{Key, Elements, no_elements, element, Raw, Rows, no_rows, row, Section}
-pub use Rattle.basic_toml_read.specs.AtPlace.{Leaves, EndsAt, IsJoint}
+pub use Rattle.basic_toml_read.specs.AtPlace.{Leaves}
 unfoldable pub use Rattle.basic_toml_read.specs.FrontOf.{keys_of, value_of, row_of, elements_of, fields_of}
 unfoldable pub use Rattle.basic_toml_read.specs.FrontOf.{fields_on_of, rows_of, header_of, sections_of}
 pub use Rattle.basic_toml_read.specs.Gathers.{Lines, row_level, IsRowRead, IsValueRead, lines_of, ClosesAt, and_lines}
@@ -60,6 +60,6 @@ pub use Rattle.basic_toml_tokens.proofs.StepIsTheFold.{text_end, offset_is}
 pub use Rattle.basic_toml_tokens.proofs.TextBetweenOffsets.{length-between}
 pub use Rattle.basic_toml_tokens.specs.Punctuation.{IsPunctuationEnd}
 pub use Rattle.basic_toml_tokens.specs.Reading.{between, IsRun}
-pub use Rattle.basic_toml_tokens.specs.Text.{Text, text_at, after_blanks, StartsWith, is_comment, run, after_run}
-pub use Rattle.basic_toml_tokens.specs.Text.{is_blank, is_keylike, folded}
+pub use Rattle.basic_toml_tokens.specs.Text.{Text, text_at, after_blanks, StartsWith, is_comment, after_run, is_blank}
+pub use Rattle.basic_toml_tokens.specs.Text.{is_keylike, folded, run}
 pub use Rattle.basic_toml_value.specs.Nesting.{nesting_limit}

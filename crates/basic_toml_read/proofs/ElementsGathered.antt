@@ -1,11 +1,11 @@
 -- The elements of an array, one by one.
 use Rattle.basic_toml_read.proofs.Common.{◌+◌, ◌*◌, length, inr, ◌≡◌, ℕ, ◌<◌, ◌≤◌, List, [], ◌∷◌, ◌++◌, max, refl, ap}
 use Rattle.basic_toml_read.proofs.Common.{sym, ◌∙◌, arith, append_assoc, Some, None, Result, Ok, Err, Vec, Global}
-use Rattle.basic_toml_read.proofs.Common.{IsCharBoundary, nesting_limit, StartsWith, text_at, is_comment}
+use Rattle.basic_toml_read.proofs.Common.{rules, IsCharBoundary, nesting_limit, StartsWith, text_at, is_comment}
 use Rattle.basic_toml_read.proofs.Common.{IsPunctuationEnd, Elements, no_elements, element, and_then, value_level}
 use Rattle.basic_toml_read.proofs.Common.{char_at, DeepElements, Stop, Why, Element, Valued, Gathered, value_of}
 use Rattle.basic_toml_read.proofs.Common.{elements_of, Leaves, elements_view, Misses, lines_of, IsValueRead, ClosesAt}
-use Rattle.basic_toml_read.proofs.Common.{LeadsTo, in_elements, gap, value_read, Hole, HoleInElements, rules}
+use Rattle.basic_toml_read.proofs.Common.{LeadsTo, in_elements, gap, value_read, Hole, HoleInElements}
 use Rattle.basic_toml_explain.specs.declared.stop.Why.TheVariants as why
 use Rattle.basic_toml_grammar.proofs.Nesting.WithinTheLimit as within
 use Rattle.basic_toml_grammar.specs.Levels.{elements_level}

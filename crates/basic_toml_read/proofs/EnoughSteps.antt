@@ -11,13 +11,13 @@ use Rattle.basic_toml_read.proofs.Common.{row_found, rows_found, header_found, s
 use Rattle.std.proofs.Common.{add-one, add-suc}
 use Rattle.basic_toml_grammar.specs.Reader.{keys_at, Valued, value_at, elements_at, fields_at, fields_on_at, row_at}
 use Rattle.basic_toml_grammar.specs.Reader.{rows_at, header_at, sections_at}
-use Rattle.basic_toml_grammar.proofs.Grammar.StringsAreRead.{sign_length}
 use Rattle.basic_toml_grammar.proofs.Grammar.ReaderIsSound.{elements_read, fields_on_read, sections_read}
 use Rattle.basic_toml_grammar.proofs.Grammar.ReaderIsComplete.{key_shorter, keys_shorter, blanks_length}
 use Rattle.basic_toml_grammar.proofs.Grammar.ReaderIsComplete.{shorter_after_blanks, gap_length, shorter_after_gap}
 use Rattle.basic_toml_grammar.proofs.Grammar.ReaderIsComplete.{value_shorter, row_shorter, ends_shorter, line_shorter}
 use Rattle.basic_toml_grammar.proofs.Grammar.ReaderIsComplete.{header_shorter, rows_shorter, elements_found}
 use Rattle.basic_toml_grammar.proofs.Grammar.ReaderIsComplete.{fields_on_found, sections_found}
+use Rattle.basic_toml_grammar.proofs.Grammar.StringsAreRead.{sign_length}
 use Rattle.basic_toml_read.proofs.GoesOn.{then_alike, found_alike, same_found, then_from}
 
 sign_shorter : (c : ℕ) (text : Text) (s : ℕ × Text) → char_at c text ≡ Some s → length text ≡ suc (length s.1)

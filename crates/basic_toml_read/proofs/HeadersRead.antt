@@ -10,8 +10,8 @@ use Rattle.basic_toml_explain.specs.declared.stop.Why.TheVariants as why
 use Rattle.basic_toml_grammar.proofs.Nesting.WithinTheLimit as within
 use Rattle.basic_toml_grammar.specs.DeepStops.{table, array_of_tables}
 use Rattle.basic_toml_grammar.specs.Holes.{HoleInHeader}
-use Rattle.basic_toml_read.specs.Lists.{HeaderKeys, AreHeaderKeys}
 use Rattle.basic_toml_read.specs.StopsReached.{InHeaderHole}
+use Rattle.basic_toml_read.specs.Lists.{HeaderKeys, AreHeaderKeys}
 use Rattle.basic_toml_grammar.proofs.Nesting.WithinTheLimit.{keys_within}
 use Rattle.basic_toml_read.proofs.StandsIn.{at_deep, key_stops_on, SameDeep, nothing_fits}
 use Rattle.basic_toml_read.proofs.EnoughSteps.{header_is}

@@ -2,11 +2,11 @@
 use Rattle.basic_toml_read.proofs.Common.{◌≡◌, ℕ, ◌+◌, ◌<◌, ◌≤◌, List, ◌++◌, length, drop, take, refl, ◌∙◌, arith, Some}
 use Rattle.basic_toml_read.proofs.Common.{None, Option, Result, Ok, Err, drop-append_seam, take-append_seam}
 use Rattle.basic_toml_read.proofs.Common.{IsCharBoundary, nesting_limit, Text, text_at, after_blanks, IsPunctuationEnd}
-use Rattle.basic_toml_read.proofs.Common.{Raw, value_level, and_then, DeepArray, DeepInline, DeepValue, array, inline}
-use Rattle.basic_toml_read.proofs.Common.{Hole, HoleInValue, Stop, Why, Valued, Gathered, elements_of, fields_of}
-use Rattle.basic_toml_read.proofs.Common.{value_of, raw_of, IsValueRead, ReadsValue, Misses, in_value, in_elements}
-use Rattle.basic_toml_read.proofs.Common.{in_fields, gap}
+use Rattle.basic_toml_read.proofs.Common.{Raw, value_level, and_then, DeepValue, array, inline, Hole, HoleInValue, Stop}
+use Rattle.basic_toml_read.proofs.Common.{Why, Valued, Gathered, elements_of, fields_of, value_of, raw_of, IsValueRead}
+use Rattle.basic_toml_read.proofs.Common.{ReadsValue, Misses, in_value, in_elements, in_fields, gap}
 use Rattle.basic_toml_grammar.proofs.Nesting.WithinTheLimit as within
+use Rattle.basic_toml_grammar.specs.DeepStops.{DeepArray, DeepInline}
 use Rattle.basic_toml_read.specs.Gathers.{Keeps, ReadsArray, ReadsInline}
 use Rattle.basic_toml_read.proofs.EnoughSteps.{value_is}
 use Rattle.basic_toml_read.proofs.LeftAfter.{sign_there, sign_missing}

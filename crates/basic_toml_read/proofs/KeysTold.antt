@@ -1,11 +1,11 @@
 -- Keys one after another, up to an offset; and those of a row, as they are gathered.
 use Rattle.basic_toml_read.proofs.Common.{refl, inr, ◌≡◌, ℕ, ◌+◌, ◌-◌, ◌<◌, ◌≤◌, List, [], ◌∷◌, ◌++◌, length, ap, sym}
 use Rattle.basic_toml_read.proofs.Common.{◌∙◌, arith, append_assoc, length-append, Option, Some, None, Ok, Err, map}
-use Rattle.basic_toml_read.proofs.Common.{IsCharBoundary, length-map, map-append, nesting_limit, Text, StartsWith}
-use Rattle.basic_toml_read.proofs.Common.{text_at, after_blanks, IsPunctuationEnd, Key, and_then, char_at, key_at}
-use Rattle.basic_toml_read.proofs.Common.{if_found, DeepKeys, Hole, HoleInKeys, Stop, Why, Memory, Deep, StopsInside}
-use Rattle.basic_toml_read.proofs.Common.{Keyed, keys_of, Leaves, Misses, MissesKey, ReadsKeyAt, AtDeep, StopsAtKey}
-use Rattle.basic_toml_read.proofs.Common.{Gathered, key_of, then_some, key_read}
+use Rattle.basic_toml_read.proofs.Common.{rules, IsCharBoundary, length-map, map-append, nesting_limit, Text}
+use Rattle.basic_toml_read.proofs.Common.{StartsWith, text_at, after_blanks, IsPunctuationEnd, Key, and_then, char_at}
+use Rattle.basic_toml_read.proofs.Common.{key_at, if_found, DeepKeys, Hole, HoleInKeys, Stop, Why, Memory, Deep}
+use Rattle.basic_toml_read.proofs.Common.{StopsInside, Keyed, keys_of, Leaves, Misses, MissesKey, ReadsKeyAt, AtDeep}
+use Rattle.basic_toml_read.proofs.Common.{StopsAtKey, Gathered, key_of, then_some, key_read}
 use Rattle.basic_toml_explain.specs.declared.stop.Why.TheVariants as why
 use Rattle.basic_toml_read.specs.declared.section.Key as code_keys
 use Rattle.basic_toml_grammar.proofs.Nesting.WithinTheLimit as within
@@ -15,7 +15,6 @@ use Rattle.basic_toml_read.proofs.StandsIn.{SameDeep, same_deep, then_deep}
 use Rattle.basic_toml_read.proofs.EnoughSteps.{keys_is}
 use Rattle.basic_toml_read.proofs.GoesOn.{after, after_from, after_none, after_one, found_from, then_from}
 use Rattle.basic_toml_read.proofs.LeftAfter.{sign_there, sign_missing}
-use Rattle.std.proofs.Common.{rules}
 
 -- what the keys are where the first of them is read
 keys_by_key : (text : Text) (k : Key) (mid : Text) (o : Option (ℕ × Text)) → key_at text ≡ Some (k, mid)

@@ -1,11 +1,11 @@
 -- What is left of a text after blanks, comments, gaps and words.
-use Rattle.basic_toml_read.proofs.Common.{◌≡◌, ℕ, ◌==◌, true, cond, [], ◌∷◌, refl, ap, sym, ◌∙◌, arith, Some, None}
-use Rattle.basic_toml_read.proofs.Common.{eqb-true, nat_tests, or_from, Text, StartsWith, after_run, is_blank}
-use Rattle.basic_toml_read.proofs.Common.{is_keylike, is_comment, after_blanks, after_twice, is_wordlike}
-use Rattle.basic_toml_read.proofs.Common.{after_comment_by, after_gap, char_at, string_at, end_of}
-use Rattle.std.proofs.lemmas.Bool.{eq-eqb}
-use Rattle.basic_toml_tokens.proofs.SpacesAreRuns.{fails_first}
-use Rattle.basic_toml_grammar.specs.Grammar.{after_gap_from}
+use Rattle.std.proofs.Common.{◌≡◌, ℕ, ◌==◌, true, cond, [], ◌∷◌, refl, ap, sym, ◌∙◌, arith, Some, None, eqb-true}
+use Rattle.std.proofs.lemmas.Bool.Decides.{nat_tests}
+use Rattle.std.proofs.lemmas.Bool.{or_from, eq-eqb}
+use Rattle.basic_toml_tokens.specs.Text.{Text, StartsWith, after_run, is_blank, is_keylike, is_comment, after_blanks}
+use Rattle.basic_toml_tokens.proofs.SpacesAreRuns.{after_twice, fails_first}
+use Rattle.basic_toml_grammar.specs.Grammar.{is_wordlike, after_comment_by, after_gap, after_gap_from}
+use Rattle.basic_toml_grammar.specs.Reader.{char_at, string_at, end_of}
 
 -- a character at the front, and another one
 pub sign_there : {c p : ℕ} {text rest : Text} → StartsWith c text p rest → char_at c text ≡ Some (p, rest)

@@ -12,13 +12,13 @@ use Rattle.basic_toml_read.proofs.Common.{key_of, then_some, rows_read, header_r
 use Rattle.basic_toml_grammar.specs.DeepStops as deep
 use Rattle.basic_toml_grammar.specs.Reader as reader
 use Rattle.basic_toml_grammar.proofs.Nesting.WithinTheLimit as within
-use Rattle.std.specs.Option.{IfSome}
 use Rattle.basic_toml_tokens.specs.Text.{start_of}
 use Rattle.basic_toml_grammar.specs.Levels.{section_level}
 use Rattle.basic_toml_grammar.specs.Holes.{HoleInText}
 use Rattle.basic_toml_read.specs.Lists.{Header, section_seen, IsSectionRead, IsHeaderRead}
 use Rattle.basic_toml_read.specs.SectionsRead.{onto, ListSoFar, IsList, left_after}
 use Rattle.basic_toml_read.specs.StopsReached.{in_text, IfDeepSection, InSectionHole}
+use Rattle.std.specs.Option.{IfSome}
 use Rattle.basic_toml_read.proofs.StandsIn.{stops_on, at_deep, then_in}
 use Rattle.basic_toml_read.proofs.RowsRead.{RowsAnswered}
 use Rattle.basic_toml_read.proofs.NothingTooDeep.{root_rows, after_header, its_rows}

@@ -1,15 +1,14 @@
 -- Where what is read first is missing, only that is too deep.
 use Rattle.basic_toml_read.proofs.Common.{◌≡◌, ◌≤◌, ◌+◌, ◌*◌, ℕ, suc, Bool, List, length, ap, sym, ◌∙◌, arith, None}
 use Rattle.basic_toml_read.proofs.Common.{nesting_limit, Text, is_comment, after_blanks, Key, Raw, Rows, IsRow, IsRows}
-use Rattle.basic_toml_read.proofs.Common.{IsHeader, EndsLine, DeepKeys, DeepRow, DeepValue, DeepElements}
-use Rattle.basic_toml_read.proofs.Common.{DeepFields, DeepRows, DeepHeader, DeepStop, char_at, line_end_at}
-use Rattle.basic_toml_read.proofs.Common.{keys_of, value_of, row_of, rows_of, header_of, value_found, row_found}
-use Rattle.basic_toml_read.proofs.Common.{rows_found, header_found}
+use Rattle.basic_toml_read.proofs.Common.{IsHeader, EndsLine, DeepKeys, DeepRow, DeepValue, DeepElements, DeepFields}
+use Rattle.basic_toml_read.proofs.Common.{DeepRows, DeepHeader, DeepStop, char_at, line_end_at, keys_of, value_of}
+use Rattle.basic_toml_read.proofs.Common.{row_of, rows_of, header_of, value_found, row_found, rows_found, header_found}
 use Rattle.basic_toml_grammar.specs.DeepStops as deep
 use Rattle.basic_toml_grammar.proofs.Nesting.WithinTheLimit as within
 use Rattle.basic_toml_grammar.specs.DeepStops.{DeepSections}
-use Rattle.basic_toml_grammar.proofs.Grammar.GrammarIsUnambiguous.{header_same, ends_same}
 use Rattle.basic_toml_grammar.proofs.Grammar.ReaderIsComplete.{keys_found}
+use Rattle.basic_toml_grammar.proofs.Grammar.GrammarIsUnambiguous.{header_same, ends_same}
 
 -- what is not found does not stand there
 row_absent : {text mid : Text} {q : ℕ} {ks : List Key} {v : Raw} → row_of text ≡ None

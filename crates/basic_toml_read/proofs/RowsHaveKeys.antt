@@ -5,12 +5,12 @@ use Rattle.basic_toml_read.proofs.Common.{raw_of, placed_of, lined_of, rows_from
 use Rattle.basic_toml_read.specs.declared.section.Key as keys
 use Rattle.basic_toml_read.specs.declared.section.Rows as tables
 use Rattle.basic_toml_read.specs.declared.section.Section as code
+use Rattle.basic_toml_read.specs.declared.section.Raw.{Raw, map-Raw, roll-Raw, ind-Raw}
+use Rattle.basic_toml_read.specs.SectionView.{Lined, elements_from, rows_view}
 use mathlib.Core.List.{map-map}
 use Rattle.basic_toml_grammar.specs.Entering.{has_key, rows_keyed, keyed_within, value_keyed, elements_keyed}
 use Rattle.basic_toml_grammar.specs.Entering.{all_keyed_within}
-use Rattle.basic_toml_read.specs.declared.section.Raw.{Raw, map-Raw, roll-Raw, ind-Raw}
 use Rattle.basic_toml_read.specs.declared.section.Raw.TheOpen.{Raw-F}
-use Rattle.basic_toml_read.specs.SectionView.{Lined, elements_from, rows_view}
 use Rattle.basic_toml_read.proofs.NextRow.{lined_is}
 use Rattle.basic_toml_read.proofs.ViewsSeen.{placed_is}
 

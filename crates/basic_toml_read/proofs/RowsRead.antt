@@ -1,16 +1,18 @@
 -- The rows of a section, line by line.
 use Rattle.basic_toml_read.proofs.Common.{inr, ◌≡◌, ℕ, ◌<◌, ◌≤◌, List, [], ◌∷◌, length, refl, ap, sym, ◌∙◌, arith, true}
-use Rattle.basic_toml_read.proofs.Common.{Option, Some, None, is_some, Result, Ok, Err, IfErr, IsUtf8, IsCharBoundary}
+use Rattle.basic_toml_read.proofs.Common.{Option, Some, None, Result, Ok, Err, IfErr, rules, IsUtf8, IsCharBoundary}
 use Rattle.basic_toml_read.proofs.Common.{nesting_limit, Text, text_at, is_comment, after_blanks, IsPunctuationEnd}
 use Rattle.basic_toml_read.proofs.Common.{over_at_end, text_end, Rows, no_rows, and_then, EndsLine, IsRow, rows_level}
 use Rattle.basic_toml_read.proofs.Common.{char_at, key_at, if_found, end_of, line_end_at, DeepRows, DeepRow, Hole, Stop}
-use Rattle.basic_toml_read.proofs.Common.{Newline, StopsInside, Gathered, rows_of, row_of, EndsAt, Leaves, row_level}
-use Rattle.basic_toml_read.proofs.Common.{Lines, and_lines, lines_of, IsRowRead, IsFrom, NextAt, AreRowsRead}
-use Rattle.basic_toml_read.proofs.Common.{EndsLineAt, IsGap, PassesGaps, IfDeep, InHole, LeadsTo, in_row, in_rows}
-use Rattle.basic_toml_read.proofs.Common.{then_some, line_end_read}
+use Rattle.basic_toml_read.proofs.Common.{Newline, StopsInside, Gathered, rows_of, row_of, Leaves, row_level, Lines}
+use Rattle.basic_toml_read.proofs.Common.{and_lines, lines_of, IsRowRead, IsFrom, NextAt, AreRowsRead, EndsLineAt}
+use Rattle.basic_toml_read.proofs.Common.{IsGap, PassesGaps, IfDeep, InHole, LeadsTo, in_row, in_rows, then_some}
+use Rattle.basic_toml_read.proofs.Common.{line_end_read}
 use Rattle.basic_toml_grammar.proofs.Nesting.WithinTheLimit as within
+use Rattle.std.proofs.Common.{is_some}
 use Rattle.basic_toml_grammar.specs.DeepStops.{this_row, after_empty, later_row}
 use Rattle.basic_toml_grammar.specs.Holes.{HoleInRows}
+use Rattle.basic_toml_read.specs.AtPlace.{EndsAt}
 use Rattle.basic_toml_read.specs.Lists.{ReadsRows}
 use Rattle.basic_toml_read.proofs.NothingTooDeep.{line_row}
 use Rattle.basic_toml_read.proofs.EnoughSteps.{after_row, keys_is, row_is, rows_is}
@@ -20,7 +22,6 @@ use Rattle.basic_toml_read.proofs.GoesOn.{after, after_from, after_one, found_fr
 use Rattle.basic_toml_read.proofs.GoesOn.{then_from}
 use Rattle.basic_toml_read.proofs.StandsIn.{SameDeep, at_deep, then_deep, then_in, StopIn, stops_on}
 use Rattle.basic_toml_read.proofs.LinesGathered.{LinesSoFar, row_first, row_stands, lines_alone, lines_more}
-use Rattle.std.proofs.Common.{rules}
 
 pub record RowsSoFar (bytes : List ℕ) (start level at : ℕ) (old new : Gathered) : Type 0 where
   pub got : Lines

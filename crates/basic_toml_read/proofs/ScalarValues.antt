@@ -1,17 +1,17 @@
 -- Strings and words as values: a scalar has no level, and where neither stands, a value is wanted.
 use Rattle.basic_toml_read.proofs.Common.{◌≡◌, ℕ, List, [], ◌∷◌, refl, ap, sym, ◌∙◌, arith, Option, Some, None, Result}
-use Rattle.basic_toml_read.proofs.Common.{Ok, Err, IfErr, ℤ, Bool, true, false, cond, encode_utf8_all, option_or}
+use Rattle.basic_toml_read.proofs.Common.{Ok, Err, IfErr, ℤ, Bool, true, false, cond, encode_utf8_all, rules, option_or}
 use Rattle.basic_toml_read.proofs.Common.{nesting_limit, Text, text_at, run, DeepValue, array, inline, is_wordlike}
-use Rattle.basic_toml_read.proofs.Common.{number_value, word_value, HoleInValue, value_level, char_at, string_at}
-use Rattle.basic_toml_read.proofs.Common.{word_at, string_value_at, Raw, hole_behind, StopsInside, Stop, Why, Valued}
-use Rattle.basic_toml_read.proofs.Common.{Gathered, value_of, IsValueRead, ReadsValue, MissesString, in_value}
-use Rattle.basic_toml_read.proofs.Common.{then_some, rules}
+use Rattle.basic_toml_read.proofs.Common.{word_value, HoleInValue, value_level, char_at, string_at, word_at}
+use Rattle.basic_toml_read.proofs.Common.{string_value_at, Raw, hole_behind, StopsInside, Stop, Why, Valued, Gathered}
+use Rattle.basic_toml_read.proofs.Common.{value_of, IsValueRead, ReadsValue, MissesString, in_value, then_some}
 use Rattle.basic_toml_grammar.specs.Reader as reader
 use Rattle.basic_toml_explain.specs.declared.stop.Why.TheVariants as why
 use Rattle.basic_toml_grammar.proofs.Nesting.WithinTheLimit as within
+use Rattle.basic_toml_grammar.specs.Grammar.{number_value}
+use Rattle.basic_toml_read.specs.StopsAt.{IsValued, ReadsStringAt, ReadsWordAt, MissesWord, WantsEnd}
 use Rattle.basic_toml_grammar.specs.Copies.{up_to, needs_copy}
 use Rattle.basic_toml_explain.specs.declared.stop.End.{End}
-use Rattle.basic_toml_read.specs.StopsAt.{IsValued, ReadsStringAt, ReadsWordAt, MissesWord, WantsEnd}
 use Rattle.basic_toml_read.proofs.StandsIn.{Answered, without_stop}
 use Rattle.basic_toml_read.proofs.EnoughSteps.{value_is}
 use Rattle.basic_toml_read.proofs.GoesOn.{found_from, then_from}

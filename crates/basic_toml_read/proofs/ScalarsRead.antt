@@ -7,6 +7,8 @@ use Rattle.basic_toml_read.proofs.Common.{string_value_at, Stop, Why, Memory, Ke
 use Rattle.basic_toml_read.proofs.Common.{ReadsKeyAt}
 use Rattle.basic_toml_grammar.specs.Sections as sections
 use Rattle.basic_toml_grammar.specs.Reader as reader
+use Rattle.basic_toml_grammar.specs.Reader.{bare_key_at, quoted_key}
+use Rattle.basic_toml_read.specs.StopsAt.{why_of, IsKeyOf}
 use Rattle.basic_toml_tokens.specs.declared.error.Error.{Error}
 use Rattle.basic_toml_tokens.specs.declared.error.Error.TheVariants.{OutOfMemory}
 use Rattle.basic_toml_tokens.specs.declared.string.Quoted.{Quoted}
@@ -15,8 +17,6 @@ use Rattle.basic_toml_tokens.specs.Strings.{IsString}
 use Rattle.basic_toml_tokens.specs.Copies.{is_copied}
 use Rattle.basic_toml_tokens.specs.String.{IsQuoted, IsRefused}
 use Rattle.basic_toml_tokens.proofs.TokenIsUnique.{no_break}
-use Rattle.basic_toml_grammar.specs.Reader.{bare_key_at, quoted_key}
-use Rattle.basic_toml_read.specs.StopsAt.{why_of, IsKeyOf}
 use Rattle.basic_toml_grammar.proofs.Grammar.StringsAreRead.{string_found, string_read}
 use Rattle.basic_toml_grammar.proofs.Grammar.CopiesAgree.{copies_agree}
 use Rattle.basic_toml_explain.proofs.TakenTokenStands.{keylike_small}

@@ -1,16 +1,16 @@
 -- A reader hands sections out one after another: where it is then, and what is left.
 use Rattle.basic_toml_read.proofs.Common.{◌≡◌, ◌==◌, false, List, [], ◌∷◌, ◌++◌, length, refl, Err, length-append, ap}
-use Rattle.basic_toml_read.proofs.Common.{arith, folded, with_root, Section, Stop, IsGap, Behind, rows_seen, no_lines}
-use Rattle.basic_toml_read.proofs.Common.{SoFar, IsEmpty, IsStop, rules}
+use Rattle.basic_toml_read.proofs.Common.{arith, rules, folded, with_root, Section, Stop, IsGap, Behind, rows_seen}
+use Rattle.basic_toml_read.proofs.Common.{no_lines, SoFar, IsEmpty, IsStop}
 use Rattle.basic_toml_read.specs.declared.section.Key as code_keys
 use Rattle.basic_toml_read.specs.declared.section.Row as code_rows
 use Rattle.basic_toml_read.specs.declared.section.Section as code
-use Rattle.basic_toml_explain.specs.Stop.{no_memory}
-use Rattle.basic_toml_read.specs.declared.reader.Place.{Place}
 use Rattle.basic_toml_read.specs.declared.reader.Place.TheVariants.{Start}
-use Rattle.basic_toml_read.specs.declared.reader.SectionReader.{SectionReader}
 use Rattle.basic_toml_read.specs.Gathers.{lines_in}
 use Rattle.basic_toml_read.specs.SectionsRead.{IsBehind, ReadsOn}
+use Rattle.basic_toml_explain.specs.Stop.{no_memory}
+use Rattle.basic_toml_read.specs.declared.reader.Place.{Place}
+use Rattle.basic_toml_read.specs.declared.reader.SectionReader.{SectionReader}
 
 -- nothing is in an empty section
 pub none_in : (s : code.Section) → IsEmpty s → lines_in s.rows ≡ no_lines

@@ -6,11 +6,11 @@ use Rattle.basic_toml_read.proofs.Common.{StopsInside, Stop, Why, Memory, Deep, 
 use Rattle.basic_toml_read.proofs.Common.{StopsAtKey, Misses}
 use Rattle.basic_toml_explain.specs.declared.stop.Why.TheVariants as why
 use Rattle.std.proofs.Common.{◌||◌}
+use Rattle.basic_toml_grammar.specs.Holes.{Fits, fits}
+use Rattle.basic_toml_read.specs.StopsReached.{Holes}
 use Rattle.std.specs.Result.{IsErrAnd}
 use Rattle.std.proofs.lemmas.Bool.{or_cases}
-use Rattle.basic_toml_grammar.specs.Holes.{Fits, fits}
 use Rattle.basic_toml_explain.specs.StopHoles.{StopsFor}
-use Rattle.basic_toml_read.specs.StopsReached.{Holes}
 use Rattle.basic_toml_grammar.proofs.Nesting.WithinTheLimit.{no_such}
 
 abbrev pub Answered : {A : Type 0} → List ℕ → (Result A Stop → Type 0) → (ℕ → Type 0) → Holes → Result A Stop → Type 0

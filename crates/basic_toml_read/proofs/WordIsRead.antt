@@ -5,16 +5,16 @@ use Rattle.basic_toml_read.proofs.Common.{IsCharBoundary, encodes-IsAscii, and_p
 use Rattle.basic_toml_read.proofs.Common.{Text, text_at, run, after_run, between, IsRun, length-between, offset_is, Raw}
 use Rattle.basic_toml_read.proofs.Common.{is_wordlike, word_value, word_at, Leaves}
 use Rattle.std.proofs.Common.{zero}
-use Rattle.std.specs.List.{list_all, prefix_len}
 use Rattle.std.proofs.lemmas.Str.{IsCharBoundary-after_ascii}
 use Rattle.std.proofs.lemmas.List.{at_drop_more, length-take-le}
+use Rattle.basic_toml_grammar.specs.Grammar.{word_offset}
+use Rattle.std.specs.List.{list_all, prefix_len}
 use Rattle.std.proofs.Math.Seq.{take-length}
 use Rattle.std.proofs.lemmas.List.Sums.{prefix_len-drop_yes}
 use Rattle.basic_toml_numbers.specs.Numbers.{is_decimal, integer_of, first_digits}
 use Rattle.basic_toml_numbers.proofs.FirstDigits.{are_first}
 use Rattle.basic_toml_tokens.proofs.RestsArePartsOfText.{part_later}
 use Rattle.basic_toml_tokens.proofs.RunsAreFound.{IsRunTest, run_by_bytes}
-use Rattle.basic_toml_grammar.specs.Grammar.{word_offset}
 use Rattle.basic_toml_read.specs.Word.{value_offset}
 use Rattle.basic_toml_read.proofs.GoesOn.{then_from}
 

@@ -1,7 +1,6 @@
-use Rattle.basic_toml_read.proofs.Common.{text_at}
+use Rattle.basic_toml_read.proofs.Common.{text_at, rules}
 use Rattle.basic_toml_read.proofs.front.after_comment.Goals as goal
 use Rattle.basic_toml_read.proofs.LeftAfter.{no_comment}
-use Rattle.std.proofs.Common.{rules}
 
 pub returns-in-None : goal.returns-in-None
 returns-in-None c =

@@ -1,7 +1,6 @@
-use Rattle.basic_toml_read.proofs.Common.{arith, text_at, is_blank, after_twice}
+use Rattle.basic_toml_read.proofs.Common.{arith, rules, text_at, is_blank, after_twice}
 use Rattle.basic_toml_read.proofs.front.after_gap.Goals as goal
 use Rattle.basic_toml_read.proofs.LeftAfter.{gap_past_blanks, gap_past_feed, gap_stands}
-use Rattle.std.proofs.Common.{rules}
 
 pub loop-next-init : goal.loop-next-init
 loop-next-init c =

@@ -1,6 +1,6 @@
-use Rattle.basic_toml_read.proofs.LeftAfter.{no_joint}
-use Rattle.basic_toml_read.proofs.front.after_joint.Goals as goal
 use Rattle.basic_toml_read.proofs.Common.{arith, text_at}
+use Rattle.basic_toml_read.proofs.front.after_joint.Goals as goal
+use Rattle.basic_toml_read.proofs.LeftAfter.{no_joint}
 
 pub returns-in-None : goal.returns-in-None
 returns-in-None c =

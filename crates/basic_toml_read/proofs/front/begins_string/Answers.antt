@@ -1,6 +1,6 @@
-use Rattle.basic_toml_read.proofs.LeftAfter.{no_string}
-use Rattle.basic_toml_read.proofs.front.begins_string.Goals as goal
 use Rattle.basic_toml_read.proofs.Common.{arith, text_at}
+use Rattle.basic_toml_read.proofs.front.begins_string.Goals as goal
+use Rattle.basic_toml_read.proofs.LeftAfter.{no_string}
 
 pub returns-in-None : goal.returns-in-None
 returns-in-None c =

@@ -1,9 +1,8 @@
-use Rattle.basic_toml_read.proofs.Common.{◌≡◌, refl, ◌≤◌, arith, text_at, after_run, is_keylike, after_twice}
+use Rattle.basic_toml_read.proofs.Common.{◌≡◌, refl, ◌≤◌, arith, rules, text_at, after_run, is_keylike, after_twice}
 use Rattle.basic_toml_read.proofs.Common.{is_wordlike}
 use Rattle.basic_toml_read.proofs.front.end_of_word.Goals as goal
 use Rattle.basic_toml_explain.proofs.TakenTokenStands.{run_within}
 use Rattle.basic_toml_read.proofs.front.end_of_word.Goals.{then-at-from, else-at-from}
-use Rattle.std.proofs.Common.{rules}
 
 pub loop-next-init : goal.loop-next-init
 loop-next-init c =

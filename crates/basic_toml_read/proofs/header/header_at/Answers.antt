@@ -1,4 +1,4 @@
-use Rattle.basic_toml_read.proofs.Common.{ap, ◌∙◌, refl, true, false, Err, text_at}
+use Rattle.basic_toml_read.proofs.Common.{ap, ◌∙◌, refl, true, false, Err, rules, text_at}
 use Rattle.basic_toml_read.proofs.header.header_at.Goals as goal
 use Rattle.basic_toml_read.proofs.StandsIn.{is_err}
 use Rattle.basic_toml_read.proofs.EnoughSteps.{header_is}
@@ -6,7 +6,6 @@ use Rattle.basic_toml_read.proofs.GoesOn.{then_from}
 use Rattle.basic_toml_read.proofs.HeadersRead.{Opened, by_bracket, half_closed, no_header_keys, one_bracket}
 use Rattle.basic_toml_read.proofs.HeadersRead.{two_brackets, unclosed}
 use Rattle.basic_toml_read.proofs.header.header_at.Goals.{After-after_blanks, After-after_blanks-in-Some}
-use Rattle.std.proofs.Common.{rules}
 
 one : (c : After-after_blanks) → Opened c.args.text.now c.args.at c.after_blanks.result false
 one c = one_bracket c.after_blanks.ensures c.in_ok-inner.ensures.read c.in-None.ensures

@@ -1,11 +1,10 @@
-use Rattle.basic_toml_read.proofs.Common.{◌+◌, ◌<◌, [], ◌∷◌, length, length-append, ap, arith, ◌∙◌, Err, map-append}
-use Rattle.basic_toml_read.proofs.Common.{text_at, key_of, nesting_limit}
+use Rattle.basic_toml_read.proofs.Common.{◌+◌, ◌<◌, [], ◌∷◌, length, length-append, ap, arith, ◌∙◌, Err, rules}
+use Rattle.basic_toml_read.proofs.Common.{map-append, text_at, key_of, nesting_limit}
 use Rattle.basic_toml_read.proofs.header.header_keys.Goals as goal
 use Rattle.basic_toml_read.specs.declared.section.Key.{Key}
 use Rattle.basic_toml_read.proofs.StandsIn.{is_err}
 use Rattle.basic_toml_read.proofs.KeysTold.{key_too_deep, no_key, told_start, told_more, told_last}
 use Rattle.basic_toml_read.proofs.LeftAfter.{sign_missing}
-use Rattle.std.proofs.Common.{rules}
 
 pub loop-keyed-init : goal.loop-keyed-init
 loop-keyed-init c =

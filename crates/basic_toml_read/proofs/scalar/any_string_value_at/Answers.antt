@@ -1,8 +1,7 @@
-use Rattle.basic_toml_read.proofs.Common.{refl, text_at, MissesString}
+use Rattle.basic_toml_read.proofs.Common.{refl, rules, text_at, MissesString}
 use Rattle.basic_toml_read.proofs.scalar.any_string_value_at.Goals as goal
 use Rattle.basic_toml_explain.specs.declared.stop.Why.TheVariants.{Value}
 use Rattle.basic_toml_read.proofs.ScalarsRead.{string_to, refused_by}
-use Rattle.std.proofs.Common.{rules}
 
 pub returns-in-Ok-clause-read : goal.returns-in-Ok-clause-read
 returns-in-Ok-clause-read c =

@@ -1,7 +1,6 @@
 use Rattle.basic_toml_read.proofs.Common.{sym, rules, the_lemmas}
 use Rattle.basic_toml_read.proofs.scalar.string_value_at.Goals as goal
 use Rattle.basic_toml_read.proofs.ScalarsRead.{string_to}
-use Rattle.std.proofs.Common.{rules}
 
 pub returns-in-Some-clause-read : goal.returns-in-Some-clause-read
 returns-in-Some-clause-read c =

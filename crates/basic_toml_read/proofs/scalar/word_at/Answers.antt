@@ -9,7 +9,6 @@ use Rattle.basic_toml_read.specs.Word.{raw_of}
 use Rattle.basic_toml_read.proofs.WordIsRead.{digits_here, word_missing, word_run, word_stands}
 use Rattle.basic_toml_explain.proofs.TakenTokenStands.{run_over}
 use Rattle.basic_toml_read.proofs.scalar.word_at.Goals.{in-Some+else-ends_word, in-None}
-use Rattle.std.proofs.Common.{rules}
 
 pub returns-then-at-after-clause-read : goal.returns-then-at-after-clause-read
 returns-then-at-after-clause-read c =

@@ -1,5 +1,5 @@
-use Rattle.basic_toml_read.proofs.Common.{◌≡◌, [], length, refl, ap, sym, ◌∙◌, arith, vec_len, with_root, Lines}
-use Rattle.basic_toml_read.proofs.Common.{lines_of, lines_view, left_at, left_to_read, rules}
+use Rattle.basic_toml_read.proofs.Common.{◌≡◌, [], length, refl, ap, sym, ◌∙◌, arith, rules, vec_len, with_root, Lines}
+use Rattle.basic_toml_read.proofs.Common.{lines_of, lines_view, left_at, left_to_read}
 use Rattle.basic_toml_read.proofs.reader.SectionReader.first.Goals as goal
 use Rattle.basic_toml_read.proofs.StandsIn.{is_err}
 use Rattle.basic_toml_read.proofs.ListsRead.{bracket_stands, root_stops, root_there, root_none, left_from}

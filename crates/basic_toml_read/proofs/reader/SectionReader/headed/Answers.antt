@@ -1,5 +1,5 @@
-use Rattle.basic_toml_read.proofs.Common.{refl, ap, ◌∙◌, arith, ◌+◌, IsCharBoundary, lines_view, left_at, left_to_read}
-use Rattle.basic_toml_read.proofs.Common.{Behind, rules}
+use Rattle.basic_toml_read.proofs.Common.{refl, ap, ◌∙◌, arith, ◌+◌, rules, IsCharBoundary, lines_view, left_at}
+use Rattle.basic_toml_read.proofs.Common.{left_to_read, Behind}
 use Rattle.basic_toml_read.proofs.reader.SectionReader.headed.Goals as goal
 use Rattle.basic_toml_read.proofs.StandsIn.{is_err}
 use Rattle.basic_toml_read.proofs.ListsRead.{bracket_stands, list_more, list_over, list_stops, left_from}

@@ -4,9 +4,9 @@ use Rattle.basic_toml_read.proofs.Common.{fields_of, fields_on_of, Lines, no_lin
 use Rattle.basic_toml_read.proofs.Common.{Raw, in_elements, in_fields, in_row}
 use Rattle.basic_toml_grammar.proofs.Nesting.WithinTheLimit as within
 use Rattle.basic_toml_read.proofs.values.Gathered.+values.Goals as goal
+use Rattle.basic_toml_grammar.specs.Holes.{HoleInFields}
 use Rattle.basic_toml_grammar.specs.DeepStops.{keys, this_brace, this_bracket, this_element, this_field, elements}
 use Rattle.basic_toml_grammar.specs.DeepStops.{fields}
-use Rattle.basic_toml_grammar.specs.Holes.{HoleInFields}
 use Rattle.basic_toml_read.proofs.StandsIn.{same_deep, stays_in, is_err, at_deep, key_stops_on, moved_in, stop_in_whole}
 use Rattle.basic_toml_read.proofs.StandsIn.{then_in}
 use Rattle.basic_toml_read.proofs.LeftAfter.{sign_missing, sign_there}
@@ -20,7 +20,6 @@ use Rattle.basic_toml_read.proofs.AfterKeys.{keys_missed, no_equals, row_there, 
 use Rattle.basic_toml_read.proofs.InBrackets.{added_to, array_answered, inline_answered}
 use Rattle.basic_toml_read.proofs.ViewsSeen.{array_of, lines_none}
 use Rattle.basic_toml_read.proofs.ScalarValues.{string_answered, word_answered}
-use Rattle.std.proofs.Common.{rules, arith, refl}
 
 -- elements
 pub elements-loop-end-init : goal.elements-loop-end-init

@@ -1,5 +1,5 @@
-use Rattle.basic_toml_read.proofs.Common.{◌≡◌, sym, ◌∙◌, ap, arith, None, Err, IsPunctuationEnd, text_at, is_comment}
-use Rattle.basic_toml_read.proofs.Common.{after_comment_by, end_of, line_end_at, rows_of}
+use Rattle.basic_toml_read.proofs.Common.{◌≡◌, sym, ◌∙◌, ap, arith, None, Err, rules, refl, IsPunctuationEnd, text_at}
+use Rattle.basic_toml_read.proofs.Common.{is_comment, after_comment_by, end_of, line_end_at, rows_of, no_lines}
 use Rattle.basic_toml_read.proofs.values.Gathered.rows.Goals as goal
 use Rattle.basic_toml_read.proofs.StandsIn.{is_err, same_deep, stays_in}
 use Rattle.basic_toml_read.proofs.GoesOn.{after_none}
@@ -9,8 +9,6 @@ use Rattle.basic_toml_read.proofs.RowsRead.{NoHeader, bracket_no_gap, comment_st
 use Rattle.basic_toml_read.proofs.RowsRead.{rows_empty, rows_more, rows_over, sign_stands, unended_stops}
 use Rattle.basic_toml_read.proofs.values.Gathered.rows.Goals.{After-after_comment, Else-is_some, Else-is_some-2}
 use Rattle.basic_toml_explain.proofs.NumberFaultIsFound.{none_from}
-use Rattle.std.proofs.Common.{rules, refl}
-use Rattle.basic_toml_read.specs.Gathers.{no_lines}
 
 -- a line without a header
 no_header : (c : Else-is_some) → NoHeader c.args.text.now c.loop-at.at c.after_blanks-front.result
