@@ -33,8 +33,7 @@ root_onto (row keys p v rs) headed = refl
 root_first : (rs : Rows) (o : Option (List Section))
     → and_then o (λ headed. Some (with_root rs headed)) ≡ onto (with_root rs []) o
 unfolding onto
-root_first rs None = refl
-root_first rs (Some headed) = ap (λ (l : List Section). Some l) (root_onto rs headed)
+root_first rs o = grind (arith, root_onto rs)
 
 root_level : (rs : Rows) → (rows_level 1 rs ≤ highest_level (with_root rs []))
     × (highest_level (with_root rs []) ≤ max 1 (rows_level 1 rs))
@@ -226,8 +225,7 @@ module _ {bytes : List ℕ} {at : ℕ} {h : Header} (read : IsHeaderRead bytes a
 onto_more : (front : List Section) (s : Section) (o : Option (List Section))
     → onto front (and_then o (λ sections. Some (s ∷ sections))) ≡ onto (front ++ s ∷ []) o
 unfolding onto
-onto_more front s None = refl
-onto_more front s (Some sections) = ap (λ (l : List Section). Some l) (sym (append_assoc front (s ∷ []) sections))
+onto_more front s o = grind (arith, append_assoc front (s ∷ []))
 
 -- from a header on
 module _ (bytes : List ℕ) (at : ℕ) (list : List Section) (s : ListSoFar bytes (Some at) list) where

@@ -1,16 +1,15 @@
 -- Strings and words as values: a scalar has no level, and where neither stands, a value is wanted.
 use Rattle.basic_toml_read.proofs.Common.{◌≡◌, ℕ, List, [], ◌∷◌, refl, ap, sym, ◌∙◌, arith, Option, Some, None, Result}
-use Rattle.basic_toml_read.proofs.Common.{Ok, Err, IfErr, ℤ, Bool, true, false, cond, encode_utf8_all, rules, option_or}
-use Rattle.basic_toml_read.proofs.Common.{nesting_limit, Text, text_at, run, DeepValue, array, inline, is_wordlike}
-use Rattle.basic_toml_read.proofs.Common.{word_value, HoleInValue, value_level, char_at, string_at, word_at}
-use Rattle.basic_toml_read.proofs.Common.{string_value_at, Raw, hole_behind, StopsInside, Stop, Why, Valued, Gathered}
-use Rattle.basic_toml_read.proofs.Common.{value_of, IsValueRead, ReadsValue, MissesString, in_value, then_some}
+use Rattle.basic_toml_read.proofs.Common.{Ok, Err, IfErr, ℤ, Bool, true, false, cond, rules, option_or, nesting_limit}
+use Rattle.basic_toml_read.proofs.Common.{Text, text_at, run, DeepValue, array, inline, is_wordlike, word_value}
+use Rattle.basic_toml_read.proofs.Common.{HoleInValue, value_level, char_at, string_at, word_at, string_value_at, Raw}
+use Rattle.basic_toml_read.proofs.Common.{hole_behind, StopsInside, Stop, Why, Valued, Gathered, value_of, IsValueRead}
+use Rattle.basic_toml_read.proofs.Common.{ReadsValue, MissesString, in_value, then_some}
 use Rattle.basic_toml_grammar.specs.Reader as reader
 use Rattle.basic_toml_explain.specs.declared.stop.Why.TheVariants as why
 use Rattle.basic_toml_grammar.proofs.Nesting.WithinTheLimit as within
 use Rattle.basic_toml_grammar.specs.Grammar.{number_value}
 use Rattle.basic_toml_read.specs.StopsAt.{IsValued, ReadsStringAt, ReadsWordAt, MissesWord, WantsEnd}
-use Rattle.basic_toml_grammar.specs.Copies.{up_to, needs_copy}
 use Rattle.basic_toml_explain.specs.declared.stop.End.{End}
 use Rattle.basic_toml_read.proofs.StandsIn.{Answered, without_stop}
 use Rattle.basic_toml_read.proofs.EnoughSteps.{value_is}
@@ -18,9 +17,7 @@ use Rattle.basic_toml_read.proofs.GoesOn.{found_from, then_from}
 
 string_level : (l : ℕ) (text : Text) (v : reader.Valued) → string_value_at text ≡ Some v → value_level l v.value ≡ 0
 string_level l text v e =
-    let (s, s_is, f) = then_some (string_at text) _ v e in
-    let there : Raw.string (encode_utf8_all s.value) (needs_copy s.multiline (up_to s.rest text)) ≡ v.value = cc in
-    sym (ap (value_level l) there)
+    let (s, s_is, f) = then_some (string_at text) _ v e in grind (arith, f)
 
 value_of_word : (l : ℕ) (a b : Bool) (z : Option ℤ) (t : Option (List ℕ)) (w : Raw)
     → cond a (Some (Raw.boolean true)) (cond b (Some (Raw.boolean false)) (number_value z t)) ≡ Some w
@@ -31,8 +28,7 @@ word_level : (l : ℕ) (text : Text) (v : reader.Valued) → word_at text ≡ So
 word_level l [] v e = cc
 word_level l (x ∷ text) v e =
     let (w, w_is, f) = then_some (word_value (run is_wordlike (x ∷ text))) _ v e in
-    let there : w ≡ v.value = cc in
-    sym (ap (value_level l) there) ∙ value_of_word l _ _ _ _ w w_is
+    grind (arith, f, value_of_word l _ _ _ _ w w_is)
 
 -- where no bracket stands
 module _ (bytes : List ℕ) (at level : ℕ) (end : End) (old : Gathered) (bracket : char_at 91 (text_at bytes at) ≡ None)

@@ -1,5 +1,5 @@
 use Rattle.basic_toml_read.proofs.Common.{◌≡◌, sym, ◌∙◌, ap, arith, None, Err, rules, refl, IsPunctuationEnd, text_at}
-use Rattle.basic_toml_read.proofs.Common.{is_comment, after_comment_by, end_of, line_end_at, rows_of, no_lines}
+use Rattle.basic_toml_read.proofs.Common.{end_of, line_end_at, rows_of, no_lines}
 use Rattle.basic_toml_read.proofs.values.Gathered.rows.Goals as goal
 use Rattle.basic_toml_read.proofs.StandsIn.{is_err, same_deep, stays_in}
 use Rattle.basic_toml_read.proofs.GoesOn.{after_none}
@@ -20,8 +20,7 @@ no_header c = record {
 -- one of a comment
 comment : (c : After-after_comment) → line_of (text_at c.args.text.now c.loop-at.at)
     ≡ text_at c.args.text.now c.after_comment.result
-comment c =
-    ap (after_comment_by is_comment) (sym c.after_blanks-front.ensures.left) ∙ sym c.after_comment.ensures.left
+comment c = cc (c.after_blanks-front.ensures.left, c.after_comment.ensures.left)
 
 -- one without a comment at its front
 no_hash : (c : Else-is_some-2) → IsPunctuationEnd 35 c.args.text.now c.after_blanks-front.result None
@@ -29,9 +28,7 @@ no_hash c = rw (none_from _ (sym c.if-is_some-2.ensures)) at c.after_punctuation
 
 same_end : (c : Else-is_some-2) → line_end_at (text_at c.args.text.now c.loop-at.at)
     ≡ end_of (text_at c.args.text.now c.after_blanks-front.result)
-same_end c =
-    ap end_of (ap (after_comment_by is_comment) (sym c.after_blanks-front.ensures.left)
-    ∙ no_comment (text_at c.args.text.now c.after_blanks-front.result) (no_hash c))
+same_end c = cc (c.after_blanks-front.ensures.left, no_comment _ (no_hash c))
 
 pub loop-at-init : goal.loop-at-init
 unfolding lines_start
