@@ -2,7 +2,7 @@
 pub use Rattle.std.proofs.Common.{◌≡◌, ◌≤◌, ◌+◌, ◌-◌, ℕ, suc, List, [], ◌∷◌, ◌++◌, length, refl, ap, sym, ◌∙◌, arith}
 pub use Rattle.std.proofs.Common.{inr, length-append, Some, None, ◌<◌, Option, Vec, Global, ◌*◌, max, append_assoc}
 pub use Rattle.std.proofs.Common.{Result, Ok, Err, rules, true, false, subst, Bool, map, eqb-true, drop, take, ◌==◌}
-pub use Rattle.std.proofs.Common.{cond, inl, append-nil, get_or, IfErr, ℤ, encode_utf8_all}
+pub use Rattle.std.proofs.Common.{cond, inl, append-nil, get_or, IfErr, ℤ}
 pub use Rattle.std.proofs.Math.Seq.{drop-append_seam, take-append_seam}
 pub use Rattle.std.proofs.lemmas.Bool.{or_from, and_parts}
 pub use Rattle.std.proofs.lemmas.Bool.Decides.{nat_tests}
@@ -24,8 +24,8 @@ pub use Rattle.basic_toml_grammar.proofs.Grammar.StringsAreRead.{then_some}
 pub use Rattle.basic_toml_grammar.specs.DeepStops.{DeepRow, DeepValue, DeepElements, DeepFields, DeepKeys, DeepHeader}
 pub use Rattle.basic_toml_grammar.specs.DeepStops.{array, inline, DeepStop, DeepRows}
 pub use Rattle.basic_toml_grammar.specs.Entering.{and_then}
-pub use Rattle.basic_toml_grammar.specs.Grammar.{IsKeys, with_root, is_wordlike, after_comment_by, after_gap, IsRow}
-pub use Rattle.basic_toml_grammar.specs.Grammar.{IsRows, IsHeader, EndsLine, word_value}
+pub use Rattle.basic_toml_grammar.specs.Grammar.{IsKeys, with_root, is_wordlike, after_gap, IsRow, IsRows, IsHeader}
+pub use Rattle.basic_toml_grammar.specs.Grammar.{EndsLine, word_value}
 pub use Rattle.basic_toml_grammar.specs.Holes.{Hole, HoleInRow, HoleInElements, HoleInFieldsOn, HoleInKeys, HoleInValue}
 pub use Rattle.basic_toml_grammar.specs.Holes.{HoleInSections}
 pub use Rattle.basic_toml_grammar.specs.Levels.{value_level, rows_level, highest_level}

@@ -1,11 +1,11 @@
 -- The list of a text: the rows before its first header, a section by its header, and the sections one by one.
 use Rattle.basic_toml_read.proofs.Common.{◌≡◌, ℕ, ◌+◌, ◌<◌, ◌≤◌, max, List, [], ◌∷◌, ◌++◌, length, refl, ap, sym, ◌∙◌}
 use Rattle.basic_toml_read.proofs.Common.{arith, Option, Some, None, Ok, Err, ◌*◌, append_assoc, append-nil, map, suc}
-use Rattle.basic_toml_read.proofs.Common.{◌==◌, true, IsCharBoundary, length-map, nil_from_length, nesting_limit, Text}
-use Rattle.basic_toml_read.proofs.Common.{text_at, folded, is_comment, after_blanks, Rows, no_rows, row, Section, Key}
-use Rattle.basic_toml_read.proofs.Common.{and_then, with_root, IsRows, IsHeader, EndsLine, rows_level, highest_level}
-use Rattle.basic_toml_read.proofs.Common.{section_list_of, end_of, line_end_at, HoleInSections, DeepRows, Stop}
-use Rattle.basic_toml_read.proofs.Common.{StopsInside, Gathered, rows_of, sections_of, header_of, Lines, no_lines}
+use Rattle.basic_toml_read.proofs.Common.{◌==◌, true, rules, IsCharBoundary, length-map, nil_from_length, nesting_limit}
+use Rattle.basic_toml_read.proofs.Common.{Text, text_at, folded, is_comment, after_blanks, Rows, no_rows, row, Section}
+use Rattle.basic_toml_read.proofs.Common.{Key, and_then, with_root, IsRows, IsHeader, EndsLine, rows_level}
+use Rattle.basic_toml_read.proofs.Common.{highest_level, section_list_of, end_of, line_end_at, HoleInSections, DeepRows}
+use Rattle.basic_toml_read.proofs.Common.{Stop, StopsInside, Gathered, rows_of, sections_of, header_of, Lines, no_lines}
 use Rattle.basic_toml_read.proofs.Common.{and_lines, lines_of, lines_view, Misses, AreRowsRead, NextAt, PassesGaps}
 use Rattle.basic_toml_read.proofs.Common.{IsFrom, sections_from, EndsLineAt, IsStop, LeadsTo, in_rows, in_sections}
 use Rattle.basic_toml_read.proofs.Common.{key_of, then_some, rows_read, header_read, line_end_read, vec_len}
@@ -236,16 +236,13 @@ module _ (bytes : List ℕ) (at : ℕ) (list : List Section) (s : ListSoFar byte
   -- a section more
   pub list_more : (new : Gathered) (h : Header) (next : Option ℕ) → IsSectionRead bytes at new h next
       → ListSoFar bytes next (list ++ section_seen h (lines_of new) ∷ [])
-  list_more new h next r = record {
-    rest = r.rest;
-    ends = r.ends;
-    told = list_from ∙ ap (onto list) r.is ∙ onto_more list (section_seen h (lines_of new)) (sections_of r.rest);
-    limit = omega (arith, s.limit, r.limit, highest_onto list (section_seen h (lines_of new) ∷ []));
-    gaps = λ g. let e = (s.gaps g).0 in cc;
-    leads = λ p d. s.leads p (r.leads s.rest s.ends.3 p d);
-    backs = λ p d. r.backs s.rest s.ends.3 p (s.backs p d);
-    holes = let on = r.holes s.rest s.ends.3 in then_in on.on on.same s.holes;
-  }
+  list_more new h next r =
+      let joined = onto_more list (section_seen h (lines_of new)) (sections_of r.rest) in
+      let told = list_from ∙ ap (onto list) r.is ∙ joined in
+      let level = highest_onto list (section_seen h (lines_of new) ∷ []) in
+      let on = r.holes s.rest s.ends.3 in
+      let holes = then_in on.on on.same s.holes in
+      search (rules, s.gaps, s.leads, s.backs, r.leads s.rest s.ends.3, r.backs s.rest s.ends.3)
 
   -- where none is read, the text stops to be one
   pub list_stops : (stop : Stop) → SectionStops bytes at stop → IsStop bytes stop

@@ -1,12 +1,12 @@
 -- Keys and strings at an offset, against the grammar.
 use Rattle.basic_toml_read.proofs.Common.{inl, inr, ◌≡◌, ℕ, Bool, List, [], ◌∷◌, length, refl, ap, sym, ◌∙◌, arith}
-use Rattle.basic_toml_read.proofs.Common.{encode_utf8_all, Option, Some, None, Result, Ok, Err, IsUtf8, IsCharBoundary}
-use Rattle.basic_toml_read.proofs.Common.{nil_from_length, encodes-IsAscii, Text, text_at, run, after_run, is_keylike}
-use Rattle.basic_toml_read.proofs.Common.{between, IsRun, length-between, offset_is, and_then, string_at, key_at}
-use Rattle.basic_toml_read.proofs.Common.{string_value_at, Stop, Why, Memory, Keyed, KeyText, key_text_bytes}
-use Rattle.basic_toml_read.proofs.Common.{ReadsKeyAt}
+use Rattle.basic_toml_read.proofs.Common.{Option, Some, None, Result, Ok, Err, IsUtf8, IsCharBoundary, nil_from_length}
+use Rattle.basic_toml_read.proofs.Common.{encodes-IsAscii, Text, text_at, run, after_run, is_keylike, between, IsRun}
+use Rattle.basic_toml_read.proofs.Common.{length-between, offset_is, and_then, string_at, key_at, string_value_at, Stop}
+use Rattle.basic_toml_read.proofs.Common.{Why, Memory, Keyed, KeyText, key_text_bytes, ReadsKeyAt}
 use Rattle.basic_toml_grammar.specs.Sections as sections
 use Rattle.basic_toml_grammar.specs.Reader as reader
+use Rattle.std.proofs.Common.{encode_utf8_all}
 use Rattle.basic_toml_grammar.specs.Reader.{bare_key_at, quoted_key}
 use Rattle.basic_toml_read.specs.StopsAt.{why_of, IsKeyOf}
 use Rattle.basic_toml_tokens.specs.declared.error.Error.{Error}

@@ -7,13 +7,9 @@ use Rattle.basic_toml_read.proofs.SectionsHandedOut.{none_in, stops_on}
 
 -- the end of the text
 pub returns-in_default : goal.returns-in_default
-returns-in_default c = record {
-  read = λ list so_far.
-      list_over c.args.self.now.text.now list (rw (c.requires.behind ∙ ap (λ o. Behind o) c.in_default.is) at so_far);
-  ready = c.requires.ready;
-  text = refl;
-  later = λ e. cc;
-}
+returns-in_default c =
+    let is = c.requires.behind ∙ ap (λ o. Behind o) c.in_default.is in
+    search (rules, list_over c.args.self.now.text.now)
 
 pub returns-in_err-header : goal.returns-in_err-header
 returns-in_err-header c =
