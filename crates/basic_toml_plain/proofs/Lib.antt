@@ -7,3 +7,4 @@ pub mod PlainLeft
 pub mod DataParts
 pub mod RowsData
 pub mod WhatIsLeft
+pub mod TablesInBlocks

@@ -1,5 +1,5 @@
 -- The tables of an array of tables, each by the number of its section and its rows as they were read.
-use Rattle.std.specs.Prelude.{ℕ, ◌+◌, Bool, ◌&&◌, nat_eq, nat_le, List, [], ◌∷◌, ◌++◌, length, take, drop}
+use Rattle.std.specs.Prelude.{ℕ, ◌+◌, ◌^◌, Bool, ◌&&◌, nat_eq, nat_le, List, [], ◌∷◌, ◌++◌, length, take, drop}
 use Rattle.std.specs.List.{list_all}
 use Rattle.basic_toml_read.specs.declared.section.Row.{Row}
 use Rattle.basic_toml_plain.specs.declared.section_rows.SectionRows.{SectionRows}
@@ -35,3 +35,19 @@ are_parts at rows [] = nat_eq (length rows) 0
 are_parts at rows (s ∷ ss) =
     (nat_eq s.start at && (nat_le s.count (length rows) && are_few_simple 0 (take s.count rows)))
     && are_parts (at + s.count) (drop s.count rows) ss
+
+-- the tables of blocks, block by block
+abbrev pub all_in : List SectionTables → List SectionTable
+all_in [] = []
+all_in (b ∷ bs) = tables_in b ++ all_in bs
+
+-- how many tables a full block has
+abbrev pub block_size : ℕ
+block_size = 64
+
+-- how many full blocks there may be
+abbrev pub most_blocks : ℕ
+most_blocks = 2 ^ 57
+
+abbrev pub are_full : List SectionTables → Bool
+are_full bs = list_all (λ b. nat_eq (length (tables_in b)) block_size) bs

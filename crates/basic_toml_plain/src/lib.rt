@@ -12,6 +12,7 @@ mod items;
 mod items_left;
 mod plain;
 mod section_rows;
+mod table_block;
 mod tables;
 mod values;
 
@@ -19,6 +20,7 @@ pub use items::{PlainArray, PlainTable};
 pub use items_left::{ItemsLeft, drain};
 pub use plain::{are_all_plain, are_few_simple, are_plain, is_plain};
 pub use section_rows::SectionRows;
+pub use table_block::TableBlock;
 pub use tables::PlainTables;
 pub use values::{
     into_plain_table, into_plain_tables, into_plain_values, plain_table, plain_tables, plain_value,

@@ -1,42 +1,33 @@
 //! The tables of an array of tables, as their rows were read.
 
-ghost use Rattle.std.specs.Prelude.{◌≡◌, ◌≤◌, ◌++◌, ◌∷◌, [], true, IfErr, IfOk, IfSome, MatchOption, length, slice_get, Some, drop};
+ghost use Rattle.std.specs.Prelude.{◌≡◌, ◌≤◌, ◌++◌, ◌∷◌, [], true, IfErr, IfOk, IfSome, MatchOption, length, slice_get, Some};
 ghost use Rattle.basic_toml_plain.specs.Plain.{are_few_simple};
-ghost use Rattle.basic_toml_plain.specs.PlainTables.{are_parts, parts, with_table, tables_in};
+ghost use Rattle.basic_toml_plain.specs.PlainTables.{all_in, most_blocks, with_table, tables_in};
 
-use crate::items_left::{ItemsLeft, drain};
-use crate::section_rows::SectionRows;
+use crate::table_block::TableBlock;
 use basic_toml_read::Row;
 use std::alloc::{AllocError, Global};
 use std::marker::Model;
 use std::mem;
 
-// Makes room for so many rows more, and where there is none for three times as many as there are, so that rows are seldom
-// moved. What is not filled takes no page of memory.
-#[inline(always)]
-fn make_room(rows: &mut Vec<Row<'_>>, count: usize) -> Result<(), AllocError>
-    ensures { rows.new.items ≡ rows.old.items }
-{
-    let len = rows.len();
-    if rows.capacity() - len >= count {
-        return Ok(());
-    }
-    rows.try_reserve_exact(len.saturating_mul(3).max(count))
-}
+// So many tables stand in a block: its rows take at most some 64 KB.
+const IN_BLOCK: usize = 64;
+
+// With more full blocks the number of a table might not be a `usize`. No memory is so large.
+const MOST_BLOCKS: usize = 1 << 57;
 
 /// The tables of an array of tables, at least one, of each of which one header alone speaks. Each has at most 16 rows,
-/// with plain values and keys that differ. The rows of all stand in one vector, so that one more table asks for little
-/// memory.
+/// with plain values and keys that differ. They stand in blocks of 64, so that no large vector moves to grow, and each block
+/// is let go as soon as its rows are taken.
 #[derive(Drop)]
 pub struct PlainTables<'de> {
-    rows: Vec<Row<'de>>,
-    earlier: Vec<SectionRows>,
-    latest: SectionRows,
+    full: Vec<TableBlock<'de>>,
+    last: TableBlock<'de>,
 }
 
 // Seen as the tables before the latest, and the latest: each by the number of its section and its rows.
 impl<'de> Model for PlainTables<'de> {
-    ghost use Rattle.std.specs.Prelude.{◌≡◌, ◌++◌, ◌∷◌, [], true, drop};
+    ghost use Rattle.std.specs.Prelude.{◌≡◌, ◌≤◌, ◌++◌, [], true, length};
     ghost use Rattle.std.specs.Coded.{codes};
     ghost use mir.Syntax.{named};
     ghost use Rattle.basic_toml_read.specs.contracts.section.Row as r;
@@ -46,11 +37,38 @@ impl<'de> Model for PlainTables<'de> {
 
     ghost coded = { Prim.hlevel (codes, (r.the_row (record { mir = named 0; lft = [] })).coded) };
 
-    ghost use Rattle.basic_toml_plain.specs.PlainTables.{are_parts, parts};
+    ghost use Rattle.basic_toml_plain.specs.PlainTables.{all_in, are_full, most_blocks, tables_in, block_size};
 
-    ghost view = { λ t. (parts t.rows.items t.earlier.items, (t.latest.section, drop t.latest.start t.rows.items)) };
+    ghost view = { λ t. (all_in t.full.items ++ t.last.0, t.last.1) };
 
-    ghost invariant = { λ t. are_parts 0 t.rows.items (t.earlier.items ++ t.latest ∷ []) ≡ true };
+    ghost invariant = { λ t. (are_full t.full.items ≡ true)
+        × ((length t.full.items ≤ most_blocks) × (length (tables_in t.last) ≤ block_size)) };
+}
+
+// A table begins a new last block.
+#[inline(never)]
+fn begin_block<'de>(
+    full: &mut Vec<TableBlock<'de>>,
+    last: &mut TableBlock<'de>,
+    rows: &mut Vec<Row<'de>>,
+    section: usize,
+) -> Result<(), AllocError>
+    requires { are_few_simple 0 rows.old.items ≡ true }
+    ensures full { IfOk result (λ _. full.new.items ≡ full.old.items ++ last.old ∷ []) }
+    ensures count { IfOk result (λ _. length full.new.items ≤ most_blocks) }
+    ensures last { IfOk result (λ _. last.new ≡ ([], (section, rows.old.items))) }
+    ensures taken { IfOk result (λ _. rows.new.items ≡ []) }
+    ensures kept { IfErr result (λ _. (full.new.items ≡ full.old.items) × (last.new ≡ last.old)) }
+    ensures refused { IfErr result (λ _. rows.new.items ≡ rows.old.items) }
+{
+    if full.len() >= MOST_BLOCKS {
+        return Err(AllocError);
+    }
+    let alloc = *full.allocator();
+    full.try_reserve(1)?;
+    let next = last.next(alloc, rows, section)?;
+    full.push_reserved(mem::replace(last, next));
+    Ok(())
 }
 
 impl<'de> PlainTables<'de> {
@@ -68,15 +86,9 @@ impl<'de> PlainTables<'de> {
         ensures tables { IfOk result (λ tables. tables.value ≡ ([], (section, rows.old.items))) }
         ensures taken { IfOk result (λ _. rows.new.items ≡ []) }
     {
-        let count = rows.len();
         let tables = PlainTables {
-            rows: rows.split_off(0)?,
-            earlier: Vec::new(alloc),
-            latest: SectionRows {
-                section,
-                start: 0,
-                count,
-            },
+            full: Vec::new(alloc),
+            last: TableBlock::new(alloc, rows, section)?,
         };
         Ok(Box::new(alloc, tables)?)
     }
@@ -93,18 +105,12 @@ impl<'de> PlainTables<'de> {
         ensures taken { IfOk result (λ _. rows.new.items ≡ []) }
         ensures refused { IfErr result (λ _. (self.new ≡ self.old) × (rows.new.items ≡ rows.old.items)) }
     {
-        let start = self.rows.len();
-        let count = rows.len();
-        self.earlier.try_reserve(1)?;
-        make_room(&mut self.rows, count)?;
-        self.rows.append(rows)?;
-        self.earlier.push_reserved(self.latest);
-        self.latest = SectionRows {
-            section,
-            start,
-            count,
-        };
-        Ok(())
+        if self.last.len() < IN_BLOCK {
+            self.last.push(rows, section)
+        } else {
+            begin_block(&mut self.full, &mut self.last, rows, section)?;
+            Ok(())
+        }
     }
 
     /// Takes all tables out of it, and leaves one without rows.
@@ -115,13 +121,8 @@ impl<'de> PlainTables<'de> {
         mem::replace(
             self,
             PlainTables {
-                rows: Vec::new(alloc),
-                earlier: Vec::new(alloc),
-                latest: SectionRows {
-                    section: 0,
-                    start: 0,
-                    count: 0,
-                },
+                full: Vec::new(alloc),
+                last: TableBlock::empty(alloc),
             },
         )
     }
@@ -130,14 +131,14 @@ impl<'de> PlainTables<'de> {
     pub fn len(&self) -> usize
         ensures { result ≡ length (tables_in self.now) }
     {
-        self.earlier.len() + 1
+        self.full.len() * IN_BLOCK + self.last.len()
     }
 
     /// The number of the latest section.
     pub fn section(&self) -> usize
         ensures { result ≡ self.now.1.0 }
     {
-        self.latest.section
+        self.last.section()
     }
 
     /// The table at a number: that of its section, and its rows.
@@ -146,20 +147,16 @@ impl<'de> PlainTables<'de> {
             (λ table. slice_get (tables_in self.now) at ≡ Some (table.0, table.1.now)) }
         ensures plain { IfSome result (λ table. are_few_simple 0 table.1.now ≡ true) }
     {
-        let own = if at == self.earlier.len() {
-            self.latest
-        } else {
-            *self.earlier.get(at)?
-        };
-        Some((own.section, &self.rows[own.start..own.start + own.count]))
+        match self.full.get(at / IN_BLOCK) {
+            Some(block) => block.get(at % IN_BLOCK),
+            None => self.last.get(at - self.full.len() * IN_BLOCK),
+        }
     }
 
-    /// All rows, and where those of each section stand among them: of the tables before the latest, and of the latest.
-    pub fn into_parts(self) -> (ItemsLeft<Row<'de>>, Vec<SectionRows>, SectionRows)
-        ensures earlier { parts result.0 result.1.items ≡ self.entry.0 }
-        ensures latest { (result.2.section, drop result.2.start result.0) ≡ self.entry.1 }
-        ensures plain { are_parts 0 result.0 (result.1.items ++ result.2 ∷ []) ≡ true }
+    /// Its blocks but the last, and the last.
+    pub fn into_blocks(self) -> (Vec<TableBlock<'de>>, TableBlock<'de>)
+        ensures { (all_in result.0.items ++ result.1.0, result.1.1) ≡ self.entry }
     {
-        (drain(self.rows), self.earlier, self.latest)
+        (self.full, self.last)
     }
 }

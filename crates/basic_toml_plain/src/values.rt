@@ -1,6 +1,6 @@
 //! The values of a `Table` that plain ones become: scalars, arrays and tables.
 
-ghost use Rattle.std.specs.Prelude.{◌≡◌, ◌==◌, ◌≤◌, true, false, IfErr, IfOk, map, length, take, drop};
+ghost use Rattle.std.specs.Prelude.{◌≡◌, ◌==◌, ◌≤◌, true, false, IfErr, IfOk, ◌++◌, map, length, take, drop};
 ghost use Rattle.basic_toml_value.specs.Data.{table as table_of_members};
 ghost use Rattle.basic_toml_value.specs.View.{view, entries};
 ghost use Rattle.basic_toml_plain.specs.Plain.{is_plain, are_plain, are_few_simple, plain_data, element_data, rows_data};
@@ -9,6 +9,7 @@ ghost use Rattle.basic_toml_plain.specs.PlainTables.{tables_in};
 ghost use Rattle.basic_toml_plain.specs.Values.{value_pair, row_pair, section_data};
 
 use crate::items_left::{ItemsLeft, drain};
+use crate::table_block::TableBlock;
 use crate::tables::PlainTables;
 use basic_toml_index::Index;
 use basic_toml_read::{Element, Raw, Row};
@@ -183,6 +184,22 @@ fn first_plain_entries(
     Ok(moved)
 }
 
+// Puts the values that the tables of a block become after others.
+#[inline(never)]
+fn push_tables(alloc: Global, block: TableBlock<'_>, moved: &mut Vec<Value>) -> Result<(), AllocError>
+    ensures { IfOk result (λ _. map view moved.new.items
+        ≡ map view moved.old.items ++ map (λ t. section_data t.1) (tables_in block.entry)) }
+{
+    let (mut rows, earlier, latest) = block.into_parts();
+    for own in earlier {
+        let entries = first_plain_entries(alloc, &mut rows, own.count)?;
+        moved.push(Value::Table(Pairs::from_parts(entries, Index::none())))?;
+    }
+    let entries = first_plain_entries(alloc, &mut rows, latest.count)?;
+    moved.push(Value::Table(Pairs::from_parts(entries, Index::none())))?;
+    Ok(())
+}
+
 /// The values that the tables of an array of tables become. Strings are moved, and memory is given back on the way.
 ///
 /// # Errors
@@ -196,14 +213,12 @@ pub fn into_plain_tables(
     ensures { IfOk result (λ moved. map view moved.items
         ≡ map (λ t. section_data t.1) (tables_in tables.entry.value)) }
 {
-    let (mut rows, earlier, latest) = Box::into_inner(tables).into_parts();
-    let mut moved = Vec::with_capacity(alloc, earlier.len().saturating_add(1))?;
-    for own in earlier {
-        let entries = first_plain_entries(alloc, &mut rows, own.count)?;
-        moved.push_reserved(Value::Table(Pairs::from_parts(entries, Index::none())));
+    let mut moved = Vec::with_capacity(alloc, tables.len())?;
+    let (full, last) = Box::into_inner(tables).into_blocks();
+    for block in full {
+        push_tables(alloc, block, &mut moved)?;
     }
-    let entries = first_plain_entries(alloc, &mut rows, latest.count)?;
-    moved.push_reserved(Value::Table(Pairs::from_parts(entries, Index::none())));
+    push_tables(alloc, last, &mut moved)?;
     Ok(moved)
 }
 

@@ -1,16 +1,11 @@
-use Rattle.std.proofs.Common.{◌≡◌, ℕ, suc, ◌≤◌, ◌+◌, ◌++◌, ◌∷◌, [], true, length, map}
-use Rattle.std.specs.Vec.{vec_len, vec_capacity}
+use Rattle.std.proofs.Common.{◌≡◌, ◌++◌, map}
 use Rattle.basic_toml_value.specs.View.{view}
-use Rattle.basic_toml_plain.specs.PlainTables.{are_parts, parts}
+use Rattle.basic_toml_plain.specs.PlainTables.{all_in}
 use Rattle.basic_toml_plain.specs.Values.{section_data}
 use Rattle.basic_toml_plain.proofs.values.into_plain_tables.Given as goal
 
--- the tables passed are moved, in order, the rows of the others are left, and there is room for them and the latest
-abbrev pub invariant-loop-own : goal.invariant-loop-own
-invariant-loop-own l = record {
-  made : map view l.moved.items
-      ++ map (λ t. section_data t.1) (parts l.rows (l.own-iterator.rest.items ++ l.latest ∷ []))
-      ≡ map (λ t. section_data t.1) (parts l.initial.rows (l.initial.own-iterator.rest.items ++ l.latest ∷ []));
-  left : (at : ℕ) × (are_parts at l.rows (l.own-iterator.rest.items ++ l.latest ∷ []) ≡ true);
-  room : suc (vec_len l.moved + length l.own-iterator.rest.items) ≤ vec_capacity l.moved;
-}
+-- the tables of the blocks passed are moved, in order
+abbrev pub invariant-loop-block : goal.invariant-loop-block
+invariant-loop-block l =
+    map view l.moved.items ++ map (λ t. section_data t.1) (all_in l.block-iterator.rest.items)
+    ≡ map view l.initial.moved.items ++ map (λ t. section_data t.1) (all_in l.initial.block-iterator.rest.items)

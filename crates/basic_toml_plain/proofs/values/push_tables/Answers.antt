@@ -1,11 +1,11 @@
-use Rattle.std.proofs.Common.{◌+◌, [], append_assoc, arith}
+use Rattle.std.proofs.Common.{◌+◌, [], append_assoc, arith, refl}
 use Rattle.std.proofs.lemmas.List.{map-append}
 use Rattle.basic_toml_value.specs.View.{view}
 use Rattle.basic_toml_plain.proofs.PartsOfRows.{all_tables, first_part, parts_are_plain}
 use Rattle.basic_toml_plain.proofs.WhatIsLeft.{nothing_left}
 use Rattle.basic_toml_plain.proofs.RowsData.{few_indexed, values_seen}
-use Rattle.basic_toml_plain.proofs.values.into_plain_tables.Goals.{In-Some}
-use Rattle.basic_toml_plain.proofs.values.into_plain_tables.Goals as goal
+use Rattle.basic_toml_plain.proofs.values.push_tables.Goals.{In-Some}
+use Rattle.basic_toml_plain.proofs.values.push_tables.Goals as goal
 
 pub first_plain_entries-requires-clause-plain : goal.first_plain_entries-requires-clause-plain
 first_plain_entries-requires-clause-plain c =
@@ -21,7 +21,7 @@ pub loop-own-preserved : goal.loop-own-preserved
 loop-own-preserved c =
     let was = rw c.in-Some.ensures.steps.0 at c.loop-own.invariant in
     let entries = c.in_ok-entries.ensures in
-    let pushed = c.push_reserved.ensures in
+    let pushed = c.in_ok-push.ensures in
     record {
       made = rw (
         pushed.items,
@@ -31,7 +31,6 @@ loop-own-preserved c =
         entries.left,
       ) was.made;
       left = (was.left.0 + c.in-Some.own.count, rw entries.left (first_part _ _ c.in-Some.own _ was.left.1).others);
-      room = omega arith;
     }
 
 pub first_plain_entries-requires-2-clause-plain : goal.first_plain_entries-requires-2-clause-plain
@@ -52,11 +51,11 @@ returns c =
     let left = c.loop-own.own-iterator.rest in
     let none = nothing_left left.items (omega (arith, c.in-None.ensures.steps.0)) in
     let whole = c.into_parts-rows in
-    let tables = all_tables whole.result.0 whole.result.1.items whole.result.2 c.args.tables.value whole.ensures.plain
-    (rw (whole.ensures.earlier, whole.ensures.latest) c.into_inner.ensures) in
+    let tables = all_tables whole.result.0 whole.result.1.items whole.result.2 c.args.block whole.ensures.plain
+    (rw (whole.ensures.earlier, whole.ensures.latest) refl) in
     let start = rw (c.into_iter-own-iterator.ensures.into_iter_gives.0, tables) at c.loop-own.invariant.made in
     rw (
-      c.push_reserved-2.ensures.items,
+      c.in_ok-push-2.ensures.items,
       map-append view,
       values_seen _ c.in_ok-entries-2.entries.items _ c.from_parts-2.ensures c.in_ok-entries-2.ensures.entries,
     )
