@@ -1,7 +1,7 @@
 //! Tables of which one header alone speaks: few simple rows stay as they were read, until another header goes on from
 //! their table, or other rows come into their array.
 
-ghost use Rattle.std.specs.Prelude.{◌≡◌, true, IfOk, map};
+ghost use Rattle.std.specs.Prelude.{◌≡◌, ◌++◌, true, IfOk, map};
 ghost use Rattle.basic_toml_plain.specs.PlainTables.{have_few_simple};
 ghost use Rattle.basic_toml_grow.specs.Simple.{table_of};
 ghost use Rattle.basic_toml_grow.specs.Takes.{Unfolds};
@@ -37,8 +37,7 @@ impl<'de> Child<'de> {
                 self.item = Item::Table(table);
                 Ok(())
             }
-            Item::Sections(_) => {
-                let Item::Sections(tables) = mem::replace(&mut self.item, Item::True) else { unreachable!(); };
+            Item::Sections(tables) => {
                 let tables = tables_of(alloc, tables)?;
                 self.item = Item::Tables(tables);
                 Ok(())
@@ -52,28 +51,36 @@ impl<'de> Child<'de> {
 #[inline(never)]
 fn tables_of<'de>(
     alloc: Global,
-    tables: Box<PlainTables<'de>>,
+    tables: &mut PlainTables<'de>,
 ) -> Result<Box<(Vec<Table<'de>>, Table<'de>)>, AllocError>
+    ensures earlier { IfOk result (λ made. made.value.0.items ≡ map table_of tables.old.0) }
+    ensures latest { IfOk result (λ made. made.value.1 ≡ table_of tables.old.1) }
+    ensures simple { IfOk result (λ _. have_few_simple tables.old ≡ true) }
 {
     let mut earlier = Vec::with_capacity(alloc, tables.len() - 1)?;
-    let (full, last) = Box::into_inner(tables).into_blocks();
+    let (full, last) = tables.take(alloc).into_blocks();
     for block in full {
-        let latest = take_block(alloc, block, &mut earlier)?;
-        earlier.push_reserved(latest);
+        let latest = block_tables(alloc, block, &mut earlier)?;
+        earlier.push(latest)?;
     }
-    let latest = take_block(alloc, last, &mut earlier)?;
+    let latest = block_tables(alloc, last, &mut earlier)?;
     Ok(Box::new(alloc, (earlier, latest))?)
 }
 
 // Puts the tables of a block but the latest after others, and answers the latest.
-fn take_block<'de>(
+#[inline(never)]
+fn block_tables<'de>(
     alloc: Global,
     block: TableBlock<'de>,
     earlier: &mut Vec<Table<'de>>,
-) -> Result<Table<'de>, AllocError> {
+) -> Result<Table<'de>, AllocError>
+    ensures earlier { IfOk result (λ _. earlier.new.items ≡ earlier.old.items ++ map table_of block.entry.0) }
+    ensures latest { IfOk result (λ latest. latest ≡ table_of block.entry.1) }
+    ensures simple { IfOk result (λ _. have_few_simple block.entry ≡ true) }
+{
     let (mut rows, sections, latest) = block.into_parts();
     for own in sections {
-        earlier.push_reserved(first_table(alloc, &mut rows, own)?);
+        earlier.push(first_table(alloc, &mut rows, own)?)?;
     }
     first_table(alloc, &mut rows, latest)
 }

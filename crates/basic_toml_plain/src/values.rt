@@ -186,7 +186,11 @@ fn first_plain_entries(
 
 // Puts the values that the tables of a block become after others.
 #[inline(never)]
-fn push_tables(alloc: Global, block: TableBlock<'_>, moved: &mut Vec<Value>) -> Result<(), AllocError>
+fn push_tables(
+    alloc: Global,
+    block: TableBlock<'_>,
+    moved: &mut Vec<Value>,
+) -> Result<(), AllocError>
     ensures { IfOk result (λ _. map view moved.new.items
         ≡ map view moved.old.items ++ map (λ t. section_data t.1) (tables_in block.entry)) }
 {

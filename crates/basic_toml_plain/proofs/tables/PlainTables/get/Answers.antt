@@ -12,7 +12,7 @@ returns-in-Some-clause-table c =
     let lookup = c.in-Some.ensures.lookup in
     let within = ltb-true (c.args.at / 64) (length c.deref.result.now) (sym lookup.0) in
     let there : slice_get full (c.args.at / 64) ≡ Some block =
-        slice_get_read full (length full) _ block refl (rw (← c.deref.ensures.value) within) (cc (lookup.1, c.deref.ensures.value)) in
+    slice_get_read full (length full) _ block refl (rw (← c.deref.ensures.value) within) (cc (lookup.1, c.deref.ensures.value)) in
     let last = tables_in c.self.inside.last in
     let at : c.args.at / 64 * 64 + c.args.at % 64 ≡ c.args.at = omega arith in
     let stands = rw at at (in_block full last (c.args.at / 64) (c.args.at % 64) block c.self.invariant.0 there (omega arith)) in

@@ -2,7 +2,7 @@ use Rattle.std.proofs.Common.{[], ◌∷◌, ◌++◌, map, ◌∙◌, arith}
 use Rattle.std.proofs.lemmas.List.{map_push, nil_from_length, same_from_push}
 use Rattle.basic_toml_plain.proofs.PartsOfRows.{all_tables, parts_are_plain, parts_are_simple}
 use Rattle.basic_toml_grow.specs.Simple.{table_of}
-use Rattle.basic_toml_grow.proofs.sections.tables_of.Goals as goal
+use Rattle.basic_toml_grow.proofs.sections.block_tables.Goals as goal
 
 pub first_table-requires-clause-plain : goal.first_table-requires-clause-plain
 first_table-requires-clause-plain c =

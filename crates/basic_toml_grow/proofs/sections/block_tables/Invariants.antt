@@ -2,7 +2,7 @@ use Rattle.std.proofs.Common.{◌≡◌, ℕ, [], ◌∷◌, ◌++◌, true, map
 use Rattle.std.specs.Vec.{vec_len, vec_capacity}
 use Rattle.basic_toml_plain.specs.PlainTables.{are_parts, parts}
 use Rattle.basic_toml_grow.specs.Simple.{table_of}
-use Rattle.basic_toml_grow.proofs.sections.tables_of.Given as goal
+use Rattle.basic_toml_grow.proofs.sections.block_tables.Given as goal
 
 -- The tables made, and then those of the sections left, are all of them. The rows left are those of the sections left,
 -- and there is room for their tables.
