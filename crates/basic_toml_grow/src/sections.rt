@@ -82,5 +82,6 @@ fn block_tables<'de>(
     for own in sections {
         earlier.push(first_table(alloc, &mut rows, own)?)?;
     }
-    first_table(alloc, &mut rows, latest)
+    let latest = first_table(alloc, &mut rows, latest)?;
+    Ok(latest)
 }
