@@ -1,7 +1,7 @@
 -- The tries of items, one level at a time.
 use Rattle.std.proofs.Common.{◌≡◌, List, ℕ, Some, None, Box, Global, rules}
 use Rattle.basic_toml_grammar.specs.Standing as standings
-use Rattle.basic_toml_grammar.specs.Trie.{trie, standing}
+use Rattle.basic_toml_grammar.specs.Trie.{trie}
 use Rattle.basic_toml_grammar.specs.Mentions.{finished}
 use Rattle.basic_toml_plain.specs.Tries.{by_keys, leaf}
 use Rattle.basic_toml_plain.specs.Plain.{plain_array}
@@ -11,8 +11,6 @@ use Rattle.basic_toml_grow.specs.declared.item.Item.TheViews.{roll-Child}
 use Rattle.basic_toml_grow.specs.declared.item.Child.{Child, out-Child}
 use Rattle.basic_toml_grow.specs.declared.item.Table.{Table, out-Table}
 use Rattle.basic_toml_grow.specs.Item.{item_trie, child_trie, table_trie}
-use Rattle.basic_toml_grow.specs.Simple.{with_entries}
-use Rattle.basic_toml_value.specs.Growth.{with_value}
 use Rattle.basic_toml_grow.proofs.KeysInATrie.{tries_of}
 use Rattle.basic_toml_read.specs.declared.section.Element.{Element}
 
@@ -27,25 +25,6 @@ pub table_entries_trie : (t : Table)
     (by_keys (tries_of child_trie (out-Table t).entries))
 unfolding tries_of
 table_entries_trie t = search (rules, the_lemmas)
-
-pub entries_with : (t : Table) (ps : List (List ℕ × Child)) → (out-Table (with_entries t ps)).entries ≡ ps
-entries_with t ps = search (rules, the_lemmas)
-
--- other entries after other ones
-pub with_entries_twice : (t : Table) (qs ps : List (List ℕ × Child))
-    → with_entries (with_entries t qs) ps ≡ with_entries t ps
-with_entries_twice t qs ps = search (rules, the_lemmas)
-
--- another child at a position of new entries
-pub with_entries_put : (t : Table) (new : List (List ℕ × Child)) (i : ℕ) (c : Child)
-    → with_entries (with_entries t new) (with_value (out-Table (with_entries t new)).entries i c)
-    ≡ with_entries t (with_value new i c)
-with_entries_put t new i c = search (rules, the_lemmas)
-
-pub with_entries_trie : (t : Table) (ps : List (List ℕ × Child))
-    → table_trie (with_entries t ps) ≡ trie (standing (table_trie t)) None (by_keys (tries_of child_trie ps))
-unfolding tries_of
-with_entries_trie t ps = search (rules, the_lemmas)
 
 -- a child that is a table
 pub table_child_trie : (at s : ℕ) (t : Box Table Global)

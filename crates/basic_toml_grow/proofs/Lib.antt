@@ -1,9 +1,6 @@
 pub mod ValuesOnTheWay
-pub mod RowsGoOn
 pub mod CrossedIsFault
 pub mod KeyTreeGrows
-pub mod RowIsFollowed
-pub mod RowsGetNoLonger
 pub mod HeadersNamed
 pub mod ObstaclesPassOn
 pub mod LatestInATrie
@@ -16,14 +13,12 @@ pub mod HeadersEntered
 pub mod RowsEntered
 pub mod MetTellsStop
 pub mod NoObstacles
-pub mod RowsLeft
 pub mod RowValues
-pub mod ElementsLeft
 pub mod Origins
 pub mod HeadersGoOn
 pub mod ObstaclesAreStops
 pub mod ClashSaysMet
-pub mod InlineTables
+pub mod ValuesMade
 pub mod SimpleRows
 pub mod SectionTables
 pub mod SectionsEntered

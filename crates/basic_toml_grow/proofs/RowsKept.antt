@@ -18,16 +18,15 @@ use Rattle.basic_toml_grow.specs.declared.item.Child.{Child, out-Child}
 use Rattle.basic_toml_grow.specs.Item.{child_trie, item_trie}
 use Rattle.basic_toml_grow.specs.Origins.{at_numbers, child_origins, item_origins, no_origins, section_origins}
 use Rattle.basic_toml_grow.specs.Takes.{TakesHeaderAtKey}
-use Rattle.basic_toml_grow.proofs.RowsLeft.{no_parents_seen}
-use Rattle.basic_toml_grow.proofs.SectionsEntered.{section_entered, section_grows, section_marks, seen}
-use Rattle.basic_toml_grow.proofs.SectionsEntered.{added_grows, added_in, added_marks, tries}
+use Rattle.basic_toml_grow.proofs.RowValues.{no_parents_seen}
+use Rattle.basic_toml_grow.proofs.SectionsEntered.{section_entered, section_grows, section_marks, seen, added_grows}
+use Rattle.basic_toml_grow.proofs.SectionsEntered.{added_in, added_marks, tries}
 use Rattle.basic_toml_grow.proofs.HeadersEntered.{holding, holding_trie}
 use Rattle.basic_toml_grow.proofs.HeadersInATrie.{array_of, enter_latest, fresh, put_next}
 use Rattle.basic_toml_grow.proofs.ItemTries.{child_item_trie}
 use Rattle.basic_toml_grow.proofs.TablesOpened.{sections_trie}
 use Rattle.basic_toml_grow.proofs.Origins.OriginsSeen.{child_seen, section_item_seen, sections_seen}
-use Rattle.basic_toml_grow.proofs.Origins.HeadersPlaceOrigins.{holding_origins}
-use Rattle.basic_toml_grow.proofs.Origins.HeadersPlaceOrigins.{none_below}
+use Rattle.basic_toml_grow.proofs.Origins.HeadersPlaceOrigins.{holding_origins, none_below}
 
 -- what the code asks of them, for a table of a level
 pub record CanStay (rows : tables.Rows) (level : ℕ) : Type 0 where

@@ -1,6 +1,6 @@
 -- Simple rows, put into a table one after another: they become its entries.
-use Rattle.std.proofs.Common.{◌≡◌, ◌≤◌, ℕ, ◌+◌, true, false, List, [], ◌∷◌, ◌++◌, length, map, Some, Ok}
-use Rattle.std.proofs.Common.{arith, take, drop, refl, sym, ap, ◌∙◌, rules, append_assoc, slice_get}
+use Rattle.std.proofs.Common.{◌≡◌, ◌≤◌, ℕ, true, false, List, [], ◌∷◌, ◌++◌, length, map, Some, Ok, arith, take, drop}
+use Rattle.std.proofs.Common.{refl, ◌∙◌, rules, append_assoc, slice_get, add-zero, Result}
 use Rattle.std.proofs.lemmas.Bool.{and_parts}
 use Rattle.std.proofs.lemmas.List.{append-nil, length-map, take_at, map-append, take-append-drop, take-map}
 use Rattle.std.proofs.lemmas.List.Folds.{list_all-append}
@@ -15,20 +15,22 @@ use Rattle.basic_toml_value.specs.Pairs.{keys_of, has_key}
 use Rattle.basic_toml_value.proofs.KeysSeen.{keys_of-seen}
 use Rattle.basic_toml_grammar.specs.Mentions.{finished}
 use Rattle.basic_toml_grammar.specs.Sections as spec
-use Rattle.basic_toml_read.specs.SectionView.{raw_of, rows_seen}
+use Rattle.basic_toml_read.specs.SectionView.{lined_of, raw_of, rows_seen}
 use Rattle.basic_toml_read.specs.declared.section.Rows as tables
 use Rattle.basic_toml_read.specs.declared.section.Raw as raws
 use Rattle.basic_toml_read.specs.declared.section.Raw.{Raw, out-Raw, roll-Raw, roll-out-Raw}
 use Rattle.basic_toml_read.specs.declared.section.Raw.TheOpen.{Raw-F}
 use Rattle.basic_toml_read.specs.declared.section.Element.{Element}
 use Rattle.basic_toml_read.specs.declared.section.Row.{Row, out-Row}
-use Rattle.basic_toml_read.proofs.NextRow.{lone_row}
-use Rattle.basic_toml_read.proofs.RowsHaveKeys.{one_has_keys, rows_are_keyed}
+use Rattle.basic_toml_read.proofs.NextRow.{lined_is, lone_row}
+use Rattle.basic_toml_read.proofs.RowsHaveKeys.{every_row, rows_are_keyed}
 use Rattle.basic_toml_plain.specs.Plain.{key_of, is_plain, are_simple, are_all_plain}
 use Rattle.basic_toml_plain.specs.Tries.{leaf}
 use Rattle.basic_toml_plain.proofs.PlainValues.{plain_value, value_lower}
 use Rattle.basic_toml_plain.proofs.SimpleKeys.{first_plain, keys_differ, others_plain, simple_are_plain}
+use Rattle.basic_toml_grow.specs.declared.clash.Clash.{Clash}
 use Rattle.basic_toml_grow.specs.declared.item.Item.{Item, the_lemmas}
+use Rattle.basic_toml_grow.specs.declared.item.Item.TheViews.{out-roll-Table}
 use Rattle.basic_toml_grow.specs.declared.item.Child.{Child}
 use Rattle.basic_toml_grow.specs.declared.item.Table.{Table, out-Table}
 use Rattle.basic_toml_grow.specs.Item.{item_trie, child_trie}
@@ -36,10 +38,8 @@ use Rattle.basic_toml_grow.specs.Origins.{item_origins, child_origins, value_ori
 use Rattle.basic_toml_grow.specs.Rows.{one_row}
 use Rattle.basic_toml_grow.specs.Simple.{kept, item_of, child_of, entry_of, entries_of, with_entries}
 use Rattle.basic_toml_grow.specs.Takes.{MakesChild, TakesRows}
-use Rattle.basic_toml_grow.proofs.ItemTries.{entries_with, with_entries_twice}
-use Rattle.basic_toml_grow.proofs.RowValues.{row_put}
+use Rattle.basic_toml_grow.proofs.RowValues.{none_taken, row_put, row_taken}
 use Rattle.basic_toml_grow.proofs.RowsEntered.{last_taken}
-use Rattle.basic_toml_grow.proofs.RowsLeft.{AreLeft, left_taken, none_taken, row_taken}
 
 -- a plain value, as the item that it is kept as
 pub record IsKept (i : Item) (v : spec.Raw) : Type 0 where
@@ -126,58 +126,45 @@ key_is_new [] k ls distinct = refl
 key_is_new (l ∷ ks) k ls distinct =
     grind (arith, is_among-insert ks ls k l, bytes_eq-Decides k l, bytes_eq-Decides l k, key_is_new ks k ls, distinct)
 
--- the first of the rows that are left, put into a table that has none of their keys
-module _ (s level : ℕ) (low : level ≤ nesting_limit) (all more : List Row) (was : Table) where
-  rest_in : (rest : List Row) (t : Table) → are_all_plain level rest ≡ true
-      → are_distinct (keys_of (out-Table t).entries ++ map key_of rest) ≡ true
-      → AreLeft s level (rows_seen [] all) was (rows_seen [] (rest ++ more)) t
-      → AreLeft s level (rows_seen [] all) was (rows_seen [] more)
-      (with_entries t ((out-Table t).entries ++ entries_of s rest))
-  rest_in [] t plain distinct here = rw (append-nil (out-Table t).entries, own_entries t) here
-  rest_in (r ∷ rs) t plain distinct here =
+-- the first of rows, put into a table that has none of their keys: what the others come to, all come to
+module _ {s level : ℕ} (low : level ≤ nesting_limit) (more : List Row) {after : Table}
+    {result : Result (Unit {0}) Clash} where
+  rows_and : (rows : List Row) (t : Table) → are_all_plain level rows ≡ true
+      → are_distinct (keys_of (out-Table t).entries ++ map key_of rows) ≡ true
+      → TakesRows (rows_seen [] more) s level (with_entries t ((out-Table t).entries ++ entries_of s rows)) after result
+      → TakesRows (rows_seen [] (rows ++ more)) s level t after result
+  rows_and [] t plain distinct takes = rw (append-nil (out-Table t).entries, own_entries t) at takes
+  rows_and (r ∷ rs) t plain distinct takes =
       let own = (out-Table t).entries in
       let entry = entry_of s r ∷ [] in
       let c = child_of s r in
       let key = key_of r in
-      let same_level : level + 0 ≡ level = omega arith in
-      let after = with_entries t (own ++ entry) in
-      let entries : (out-Table after).entries ≡ own ++ entry = entries_with t (own ++ entry) in
-      let same : with_entries after ((out-Table after).entries ++ entries_of s rs)
-      ≡ with_entries t (own ++ entries_of s (r ∷ rs)) =
-      rw (with_entries_twice t (own ++ entry), entries, append_assoc) refl in
-      let one : TakesRows (one_row [] r) s level t after (Ok tt) =
-      row_put [] r _ _ _ _ (last_taken t key c (own ++ entry) (new_place (length own))
-      (adds own key c (key_is_new (keys_of own) key (map key_of rs) distinct)) refl)
-      (child_made s r _ (rw same_level (first_plain level r rs plain))) (omega arith) refl in
-      rw (← same) (rest_in rs after (others_plain level r rs plain)
-      (rw (entries, keys_more own key c, append_assoc) distinct)
-      (row_taken (rw (lone_row r (rs ++ more)) at here) (one_has_keys [] r) one))
+      let now = with_entries t (own ++ entry) in
+      let one : TakesRows (one_row [] r) s level t now (Ok tt) =
+      row_put [] (lined_of r).key (omega arith) c
+      (rw (lined_is r) (child_made s r _ (rw add-zero (first_plain level r rs plain))))
+      (rw (lined_is r) (last_taken t key (own ++ entry) (new_place (length own))
+      (adds own key c (key_is_new (keys_of own) key (map key_of rs) distinct)) c (last_value own key c) refl refl)) in
+      let all = lone_row r (rs ++ more) in
+      rw all (row_taken one (rw all at (rows_are_keyed [] (r ∷ (rs ++ more)))) (every_row r) (rows_and rs now
+      (others_plain level r rs plain) (rw (out-roll-Table, keys_more own key c, append_assoc) distinct)
+      (rw (out-roll-Table, append_assoc) takes)))
 
--- the first of all rows, put into a table without entries: the others are left
-first_rows_in : (s level : ℕ) → level ≤ nesting_limit → (t : Table) → (out-Table t).entries ≡ []
-    → (all rows more : List Row) → all ≡ rows ++ more → are_all_plain level rows ≡ true
-    → are_distinct (map key_of rows) ≡ true
-    → AreLeft s level (rows_seen [] all) t (rows_seen [] more) (with_entries t (entries_of s rows))
-first_rows_in s level low t none all rows more parts plain distinct =
-    rw none at (rest_in s level low all more t rows t plain (rw none distinct) (rw parts (search rules)))
+  -- plain rows, of which the first, whose keys differ, are the entries of a table that had none
+  pub first_in : {t : Table} (rows : List Row) (count : ℕ) → (out-Table t).entries ≡ []
+      → are_all_plain level rows ≡ true → are_distinct (take count (map key_of rows)) ≡ true → more ≡ drop count rows
+      → TakesRows (rows_seen [] more) s level (with_entries t (entries_of s (take count rows))) after result
+      → TakesRows (rows_seen [] rows) s level t after result
+  first_in {t} rows count none plain distinct is_more takes =
+      let first = take count rows in
+      let parts : first ++ more ≡ rows = rw is_more (take-append-drop count rows) in
+      let plain_first = (and_parts _ _ (rw (← parts, list_all-append) at plain)).0 in
+      rw parts at (rows_and first t plain_first (rw (none, ← take-map) distinct) (rw none takes))
 
--- and all of them
+-- simple rows, put into a table without entries
 pub rows_in : (s level : ℕ) → level ≤ nesting_limit → (t : Table) → (out-Table t).entries ≡ [] → (rows : List Row)
     → are_simple level rows ≡ true
     → TakesRows (rows_seen [] rows) s level t (with_entries t (entries_of s rows)) (Ok tt)
 rows_in s level low t none rows simple =
-    left_taken (first_rows_in s level low t none rows rows [] (sym (append-nil rows))
-    (simple_are_plain level rows simple) (keys_differ level rows simple)) (rows_are_keyed [] rows)
-    none_taken
-
--- plain rows, of which the first, whose keys differ, are the entries of a table that had none
-pub first_in : {s level : ℕ} {t now : Table} (rows more : List Row) (count : ℕ) → level ≤ nesting_limit
-    → (out-Table t).entries ≡ [] → are_all_plain level rows ≡ true
-    → are_distinct (take count (map key_of rows)) ≡ true → now ≡ with_entries t (entries_of s (take count rows))
-    → more ≡ drop count rows → AreLeft s level (rows_seen [] rows) t (rows_seen [] more) now
-first_in {s} {level} {t} {now} rows more count low none plain distinct is_now is_more =
-    let parts : rows ≡ take count rows ++ more = rw is_more (sym (take-append-drop count rows)) in
-    let plain_first = (and_parts _ _ (sym (list_all-append (λ (r : Row). is_plain (out-Row r).value level)
-    (take count rows) more) ∙ ap (are_all_plain level) (sym parts) ∙ plain)).0 in
-    rw is_now (first_rows_in s level low t none rows (take count rows) more parts plain_first
-    (ap are_distinct (sym (take-map key_of count rows)) ∙ distinct))
+    rw (none, append-nil) at (rows_and {s = s} low [] rows t (simple_are_plain level rows simple)
+    (rw none (keys_differ level rows simple)) none_taken)

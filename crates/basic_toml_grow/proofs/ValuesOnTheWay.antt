@@ -1,15 +1,25 @@
--- The values on the way of a path, and those that rows end with.
-use Rattle.std.proofs.Common.{◌≡◌, ◌⊎◌, inl, inr, ℕ, true, [], ◌∷◌, refl, ◌∙◌}
-use Rattle.std.proofs.Common.{Option, Some, None, arith}
+-- The values on the way of a path, and those that rows end with: the next row is followed, or goes on from a value.
+use Rattle.std.proofs.Common.{◌≡◌, ◌⊎◌, inl, inr, ℕ, true, List, [], ◌∷◌, ◌++◌, map, refl, ◌∙◌, Option, Some, None, Ok}
+use Rattle.std.proofs.Common.{Err, arith, take, drop, length, get_or, ◌<◌, ◌+◌}
 use Rattle.std.specs.Option.{option_or}
 use Rattle.std.specs.Str.{bytes_eq}
+use Rattle.std.proofs.Math.Path.{fun_ext}
 use Rattle.std.proofs.lemmas.Bool.{and_parts, cases_Bool}
+use Rattle.std.proofs.lemmas.List.{map-append}
 use Rattle.std.proofs.lemmas.Slice.Eq.{bytes_eq-Decides}
 use Rattle.basic_toml_index.proofs.DistinctKeys.{bytes_eq-same}
-use Rattle.basic_toml_grammar.specs.Sections.{KeyTexts}
+use Rattle.basic_toml_grammar.specs.Sections.{Key, KeyTexts, texts}
 use Rattle.basic_toml_grammar.specs.Steps.{properly_begins, steps_of}
-use Rattle.basic_toml_grow.specs.Crossed.{same_keys, and_end}
-use Rattle.basic_toml_grow.specs.KeyTree.{Ends, value_on, Follows}
+use Rattle.basic_toml_read.specs.declared.section.Key as keys
+use Rattle.basic_toml_read.specs.declared.section.Row.{Row, out-Row}
+use Rattle.basic_toml_read.specs.SectionView.{header_texts, key_of, lined_of, rows_seen}
+use Rattle.basic_toml_read.specs.KeyText.{key_text_bytes}
+use Rattle.basic_toml_read.proofs.NextRow.{and_rows, lined_is, next_row}
+use Rattle.basic_toml_grow.specs.declared.crossed.KeyTree.{KeyTree}
+use Rattle.basic_toml_grow.specs.declared.crossed.Crossed.{Crossed}
+use Rattle.basic_toml_grow.specs.declared.crossed.Crossed.TheVariants.{Memory, At}
+use Rattle.basic_toml_grow.specs.Crossed.{same_keys, and_end, crossed_after, Looks}
+use Rattle.basic_toml_grow.specs.KeyTree.{Ends, ends_of, value_on, Follows, FollowsTo}
 
 pub none_left : {A : Type 0} (a b : Option A) → option_or a b ≡ None → a ≡ None
 none_left a b e = grind arith
@@ -78,3 +88,30 @@ module _ (ends : Ends) (path : KeyTexts) (at : ℕ) where
   follows_so after follows p =
       let stands = follows.stands.1 in
       grind (arith, follows.kept p, follows.told p, follows.told path, keys_same path, keys_are p path)
+
+-- the next row of the code's rows, with its own parents, where what all rows cross is what those that are left cross
+module _ {all : Option ℕ} (parents own : List keys.Key) (rows : List Row) (i : ℕ) (r : Row) (last : List ℕ)
+    (tree after : KeyTree) (within : i < length rows) (is : r ≡ get_or rows i r)
+    (own_is : own ≡ take (out-Row r).parents parents) (last_is : last ≡ key_text_bytes (out-Row r).key)
+    (passed : all ≡ crossed_after (ends_of tree) (rows_seen parents (drop i rows))) where
+  abbrev path : KeyTexts
+  path = header_texts own ++ last ∷ []
+
+  abbrev start : ℕ
+  start = (out-Row r).start
+
+  next_is : all ≡ crossed_after (ends_of tree) (and_rows parents r (drop (i + 1) rows))
+  next_is = passed ∙ rw (next_row parents rows i r within is) refl
+
+  same_path : texts (map key_of (take (out-Row r).parents parents) ++ (lined_of r).key ∷ []) ≡ path
+  same_path = rw (own_is, last_is, lined_is r) (map-append (λ (k : Key). k.text) _ _)
+
+  pub gone_on : FollowsTo tree path start after (Ok tt)
+      → all ≡ crossed_after (ends_of after) (rows_seen (drop (out-Row r).parents parents) (drop (i + 1) rows))
+  gone_on follows =
+      let ends = fun_ext (follows_so (ends_of tree) path start (ends_of after) follows) in
+      next_is ∙ rw (same_path, lined_is r, follows.free, ← ends) refl
+
+  pub stopped : (e : Crossed) → FollowsTo tree path start after (Err e) → Looks all (Err e)
+  stopped Memory goes = tt
+  stopped (At at) goes = next_is ∙ rw (same_path, goes) refl

@@ -1,6 +1,6 @@
 -- The origins in a table and in what stands in it, one level at a time, and how they change at a key.
 use Rattle.std.proofs.Common.{◌≡◌, ℕ, true, false, List, [], ◌∷◌, ◌++◌, Option, Some, None, refl, ap, inl, inr, sym}
-use Rattle.std.proofs.Common.{◌∙◌, map, rules, option_map, slice_get, Vec, Box, Global, codes, ◌||◌, bytes_eq}
+use Rattle.std.proofs.Common.{arith, ◌∙◌, map, rules, option_map, slice_get, Vec, Box, Global, codes, ◌||◌, bytes_eq}
 use Rattle.std.specs.Option.{option_or}
 use Rattle.std.proofs.Math.Path.{fun_ext}
 use Rattle.std.proofs.lemmas.Bool.{cases_Bool}
@@ -50,9 +50,6 @@ made_seen t = ap (λ w. w.made) (table_seen t)
 pub section_seen : (t : Table) → (table_within t).section ≡ (out-Table t).section
 section_seen t = ap (λ w. w.section) (table_seen t)
 
-pub below_seen : (t : Table) → table_origins t ≡ at_keys (map (λ p. (p.0, child_origins p.1)) (out-Table t).entries)
-below_seen t = ap (λ w. w.below) (table_seen t)
-
 -- items, by their parts
 pub table_item_seen : (t : Box Table Global) (at s : ℕ)
     → item_origins (items.Table t) at s ≡ of_table at s (table_within t.value)
@@ -86,14 +83,13 @@ tables_seen tables at s = search (rules, the_lemmas)
 -- what stands at a key
 pub seen_at_key : (t : Table) (k : List ℕ) (p : Path)
     → table_origins t (key k ∷ p) ≡ under (option_map child_origins (value_at (out-Table t).entries k)) p
-seen_at_key t k p = rw (below_seen t, value_at-map child_origins (out-Table t).entries k) refl
+seen_at_key t k p = rw (table_origins, table_seen t, value_at-map child_origins (out-Table t).entries k) refl
 
 pub seen_at_none : (t : Table) → table_origins t [] ≡ None
-seen_at_none t = ap (λ f. f []) (below_seen t)
+seen_at_none t = rw (table_origins, table_seen t) refl
 
 pub or_none : (o : Option Origin) → option_or o None ≡ o
-or_none None = refl
-or_none (Some o) = refl
+or_none o = grind arith
 
 -- a table where a key is entered, and another child put in the place of what stands there then
 module _ {gives : Child → Type 0} (t u : Table) (there gone : Child) (k : List ℕ) (new : List (List ℕ × Child))
@@ -128,15 +124,11 @@ module _ {gives : Child → Type 0} (t u : Table) (there gone : Child) (k : List
         let kept = kept_elsewhere k e.there (out-Table t).entries new p.position e.entered there stands gone l is in
         rw (is, seen_at_key u l q, put, kept, ← seen_at_key t l q) (sym (or_none _))
   ]
-  grows_at below q more = rw (below_seen u, below_seen t) refl
+  grows_at below q more = rw (table_origins, table_seen u, table_seen t) refl
 
 -- nothing comes from a table without entries
 pub no_keys_below : at_keys [] ≡ no_origins
-no_keys_below = fun_ext go
-  where
-    go : (p : Path) → at_keys [] p ≡ None
-    go (key k ∷ p) = refl
-    go _ = refl
+no_keys_below = fun_ext (λ p. grind arith)
 
 no_entries : (ps : List (List ℕ × Child)) → by_keys (map (λ p. (p.0, child_trie p.1)) ps) ≡ no_tries → ps ≡ []
 no_entries [] e = refl

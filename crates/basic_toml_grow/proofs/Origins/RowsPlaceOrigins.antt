@@ -1,9 +1,9 @@
 -- A row put into a table: where what it makes comes from.
-use Rattle.std.proofs.Common.{◌≡◌, ℕ, Bool, true, false, List, [], ◌∷◌, ◌++◌, Some, refl, ap, sym, ◌∙◌, ap₂, rules}
-use Rattle.std.proofs.Common.{slice_get, Box, Global}
+use Rattle.std.proofs.Common.{◌≡◌, ℕ, Bool, true, false, List, [], ◌∷◌, ◌++◌, Some, refl, ap, sym, ◌∙◌, rules}
+use Rattle.std.proofs.Common.{slice_get, Box, Global, arith}
 use Rattle.std.proofs.Math.Path.{fun_ext}
 use Rattle.basic_toml_grammar.specs.Sections.{KeyTexts}
-use Rattle.basic_toml_grammar.specs.Steps.{key, Path}
+use Rattle.basic_toml_grammar.specs.Steps.{key}
 use Rattle.basic_toml_grow.specs.declared.item.Item.{the_lemmas}
 use Rattle.basic_toml_grow.specs.declared.item.Item as items
 use Rattle.basic_toml_grow.specs.declared.item.Item.TheViews.{roll-Child, roll-Table, out-roll-Table}
@@ -15,8 +15,6 @@ use Rattle.basic_toml_value.specs.declared.pairs.growth.Place.{Place}
 use Rattle.basic_toml_grow.specs.Origins.{Origin, Origins, no_origins, entry, Within, table_origin, child_origins}
 use Rattle.basic_toml_grow.specs.Origins.{of_table, section_in, table_within, with_more, or_else, origins_before}
 use Rattle.basic_toml_grow.specs.Origins.{beyond, row_origins}
-use Rattle.basic_toml_grow.proofs.ItemTries.{entries_with}
-use Rattle.basic_toml_grow.proofs.KeysInATrie.{with_same}
 use Rattle.basic_toml_grow.proofs.Origins.OriginsSeen.{child_seen, table_seen, table_item_seen, grows_at}
 use Rattle.basic_toml_grow.proofs.MetTellsStop.{dotted_fields}
 
@@ -28,39 +26,19 @@ origins_on k (l ∷ ks) last o below = refl
 abbrev pub within : Bool → ℕ → Origins → Within
 within made section below = record { made = made; section = section; below = below }
 
-pub within_is : (w v : Within) → w.made ≡ v.made → w.section ≡ v.section → ((p : Path) → w.below p ≡ v.below p) → w ≡ v
-within_is w v made section below =
-    ap₂ (λ b n. within b n w.below) made section ∙ ap (within v.made v.section) (fun_ext below)
-
 -- a table in which a key is entered, and another child put in the place of what stands there then
-module _ {gives : Child → Type 0} (before : Table) (k : List ℕ) (there child : Child) (new : List (List ℕ × Child))
-    (p : Place) (e : FindsOrAdds gives k (out-Table before).entries new p)
-    (stands : slice_get (values_of new) p.position ≡ Some there) (below : Origins)
-    (comes : child_origins child ≡ or_else (origins_before p.is_new (child_origins there)) below) where
-  pub origins_put : (after : Table) → after ≡ with_entries before (with_value new p.position child)
-      → table_within after ≡ with_more (table_within before) (beyond (key k) below)
-  origins_put after same =
-      let put = with_value new p.position child in
-      rw same (within_is _ _ (search (rules, the_lemmas)) (search (rules, the_lemmas))
-      (λ q. grows_at before (with_entries before put) there child k new p e stands (entries_with before put) below q
-      (λ r is. ap (λ f. f r) comes)))
-
--- a table with a new key
-pub origins_added : {gives : Child → Type 0} (before : Table) (k : List ℕ) (there : Child)
-    (new : List (List ℕ × Child)) (p : Place) → FindsOrAdds gives k (out-Table before).entries new p
-    → slice_get (values_of new) p.position ≡ Some there → p.is_new ≡ true
-    → table_within (with_entries before new) ≡ with_more (table_within before) (beyond (key k) (child_origins there))
-origins_added before k there new p e stands is_new =
-    origins_put before k there there new p e stands (child_origins there) (rw is_new refl) (with_entries before new)
-    (rw (with_same new p.position there stands) refl)
+pub origins_put : {gives : Child → Type 0} (t : Table) (k : List ℕ) (there now : Child) (new : List (List ℕ × Child))
+    (p : Place) → FindsOrAdds gives k (out-Table t).entries new p → slice_get (values_of new) p.position ≡ Some there
+    → (below : Origins) → child_origins now ≡ or_else (origins_before p.is_new (child_origins there)) below
+    → table_within (with_entries t (with_value new p.position now)) ≡ with_more (table_within t) (beyond (key k) below)
+origins_put t k there now new p e stands below comes =
+    let put = with_value new p.position now in
+    rw (← (fun_ext (λ q. grows_at t (with_entries t put) there now k new p e stands (rw out-roll-Table refl) below q
+    (λ r is. ap (λ f. f r) comes)))) (search (rules, the_lemmas))
 
 -- an origin here, and what comes below it beside what was there; and what comes below a new table
 or_entry : (o u : Origin) (f g : Origins) → entry o (or_else f g) ≡ or_else (entry o f) (entry u g)
-or_entry o u f g = fun_ext go
-  where
-    go : (p : Path) → entry o (or_else f g) p ≡ or_else (entry o f) (entry u g) p
-    go [] = refl
-    go (s ∷ p) = refl
+or_entry o u f g = fun_ext (λ p. grind arith)
 
 pub comes_below : (is_new : Bool) (o : Origin) (f g row : Origins) → (is_new ≡ true → f ≡ entry o no_origins)
     → g ≡ or_else f (entry o row) → g ≡ or_else (origins_before is_new f) (entry o row)

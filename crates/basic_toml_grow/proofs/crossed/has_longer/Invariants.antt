@@ -2,7 +2,7 @@ use Rattle.std.proofs.Common.{◌≡◌, List, None, drop}
 use Rattle.basic_toml_read.specs.declared.section.Key as keys
 use Rattle.basic_toml_read.specs.SectionView.{rows_seen}
 use Rattle.basic_toml_grow.specs.Crossed.{crossed_between}
-use Rattle.basic_toml_grow.proofs.RowsGetNoLonger.{Shrink}
+use Rattle.basic_toml_grow.proofs.CrossedIsFault.{Shrink}
 use Rattle.basic_toml_grow.proofs.crossed.has_longer.Given as goal
 
 -- where the rows that are left get no longer, none of all goes on from a value

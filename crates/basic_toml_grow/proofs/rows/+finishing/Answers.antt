@@ -1,77 +1,73 @@
-use Rattle.std.proofs.Common.{◌≡◌, [], ap, ◌∙◌, arith, map}
-use Rattle.std.proofs.Common.{rules, true, ◌+◌, take}
+use Rattle.std.proofs.Common.{◌≡◌, [], ap, ◌∙◌, arith, rules, true, ◌+◌, ◌∷◌}
 use Rattle.std.specs.Box as boxes
 use Rattle.std.specs.Prelude.{nat_lt}
 use Rattle.std.proofs.lemmas.Bool.{and_from}
 use Rattle.std.proofs.lemmas.Result.{err_from_is_err_and}
 use Rattle.basic_toml_value.specs.Nesting.{nesting_limit}
-use Rattle.basic_toml_read.specs.SectionView.{key_of, rows_seen}
+use Rattle.basic_toml_read.specs.SectionView.{lined_of}
 use Rattle.basic_toml_read.specs.declared.section.Raw as raws
 use Rattle.basic_toml_read.specs.declared.section.Rows as tables
 use Rattle.basic_toml_read.specs.declared.section.Row.{out-Row}
-use Rattle.basic_toml_read.proofs.RowsHaveKeys.{one_has_keys, are_keyed, rows_are_keyed}
-use Rattle.basic_toml_read.proofs.NextRow.{first_row, parents_left}
+use Rattle.basic_toml_read.proofs.RowsHaveKeys.{are_keyed, every_element, every_row, rows_are_keyed}
+use Rattle.basic_toml_read.proofs.ViewsSeen.{placed_is}
+use Rattle.basic_toml_read.proofs.NextRow.{first_row, lined_is, parents_left}
 use Rattle.basic_toml_plain.specs.Plain.{are_plain, are_few_simple, are_all_plain}
 use Rattle.basic_toml_plain.proofs.PlainSeen.{array_is, inline_is}
 use Rattle.basic_toml_plain.proofs.PlainValues.{elements_lower, few_lower}
 use Rattle.basic_toml_plain.proofs.WhatIsLeft.{nothing_left}
 use Rattle.basic_toml_grow.specs.Item.{table_trie}
-use Rattle.basic_toml_grow.proofs.ElementsLeft.{element_made}
-use Rattle.basic_toml_grow.proofs.ElementsLeft.{elements_done}
-use Rattle.basic_toml_grow.proofs.InlineTables.{inline_made, inline_refused}
-use Rattle.basic_toml_grow.proofs.RowsLeft.{left_taken, no_parents_seen, none_taken, row_refused, row_taken}
-use Rattle.basic_toml_grow.proofs.RowValues.{row_met, row_put, value_refused}
+use Rattle.basic_toml_grow.proofs.ValuesMade.{element_made, elements_done, inline_made, inline_refused}
+use Rattle.basic_toml_grow.proofs.RowValues.{no_parents_seen, none_taken, row_met, row_put, row_refused, row_taken}
+use Rattle.basic_toml_grow.proofs.RowValues.{value_refused}
 use Rattle.basic_toml_grow.proofs.SimpleRows.{all_lower, first_in, plain_made}
 use Rattle.basic_toml_grow.proofs.rows.+finishing.Goals as goal
 
 pub enter_rows-returns-in_err-enter_value : goal.enter_rows-returns-in_err-enter_value
 enter_rows-returns-in_err-enter_value t c =
     let p = err_from_is_err_and c.from_residual.result c.from_residual.ensures.1 in
-    let left = c.loop-row.left.now in
-    let seen = ap (rows_seen left) c.in-Some.ensures.steps ∙ first_row left c.in-Some.row c.next.new.self in
-    rw (p.1, p.2) (left_taken (rw seen at c.loop-row.invariant.left) (rows_are_keyed c.args.parents.now c.args.rows)
-    (row_refused (rw c.own_parents-own.ensures at c.in_err-enter_value.ensures)))
+    rw (p.1, p.2) (c.loop-row.invariant.left _ _ (rw (c.in-Some.ensures.steps, first_row)
+    (row_refused (rw c.own_parents-own.ensures at c.in_err-enter_value.ensures))))
 
 pub enter_rows-returns : goal.enter_rows-returns
-enter_rows-returns t c =
-    left_taken (rw c.in-None.ensures.steps.0 at c.loop-row.invariant.left)
-    (rows_are_keyed c.args.parents.now c.args.rows) none_taken
+enter_rows-returns t c = c.loop-row.invariant.left _ _ (rw c.in-None.ensures.steps.0 none_taken)
 
 pub enter_rows-loop-row-preserved : goal.enter_rows-loop-row-preserved
 enter_rows-loop-row-preserved t c =
     let row = c.in-Some.row in
     let left = c.loop-row.left.now in
+    let rest = c.next.new.self in
     let own = parents_left (out-Row row).parents left c.own_parents-own.result.now c.own_parents-own.ensures in
-    let seen = ap (rows_seen left) c.in-Some.ensures.steps ∙ first_row left row c.next.new.self in
     record {
       within = omega (arith, own.0, c.loop-row.invariant.within);
-      left = rw (← own.1) (row_taken (rw seen at c.loop-row.invariant.left)
-          (one_has_keys (map key_of (take (out-Row row).parents left)) row)
-          (rw c.own_parents-own.ensures at c.in_ok-enter_value.ensures));
+      left = λ after r takes. c.loop-row.invariant.left after r (rw (c.in-Some.ensures.steps, first_row)
+          (row_taken (rw c.own_parents-own.ensures at c.in_ok-enter_value.ensures)
+          (rw first_row at (rows_are_keyed left (row ∷ rest))) (every_row row) (rw own.1 takes)));
     }
 
 pub enter_value-returns-in-Err : goal.enter_value-returns-in-Err
 enter_value-returns-in-Err t c =
-    let held = c.in_ok-value_clash-in-Err in
-    value_refused c.args.keys.now c.args.row _ _ _ _ c.in-Err.ensures (omega arith) c.as_str.ensures.value
-    held.ensures.same (held.ensures.named (out-Row c.args.row).offset)
+    let held = c.in_ok-value_clash-in-Err.ensures in
+    value_refused c.args.keys.now (lined_of c.args.row).key (omega arith) (rw lined_is c.in-Err.ensures) held.same
+    (rw (lined_is, ← c.as_str.ensures.value) (held.named (out-Row c.args.row).offset))
 
 pub enter_value-returns-in-Ok-enter_row : goal.enter_value-returns-in-Ok-enter_row
 enter_value-returns-in-Ok-enter_row t c =
-    row_put _ c.args.row _ _ _ _ c.in-Ok-enter_row.ensures c.in-Ok.ensures (omega arith) c.as_str-in-Ok.ensures.value
+    row_put c.args.keys.now (lined_of c.args.row).key (omega arith) c.in-Ok.child (rw lined_is c.in-Ok.ensures)
+    (rw (lined_is, ← c.as_str-in-Ok.ensures.value) c.in-Ok-enter_row.ensures)
 
 pub enter_value-returns : goal.enter_value-returns
 enter_value-returns t c =
     let clash = c.in_ok-row_clash-in-Err-enter_row.ensures in
-    row_met _ c.args.row _ _ _ _ c.in-Err-enter_row.ensures c.in-Ok.ensures (omega arith) c.as_str-in-Ok.ensures.value
-    c.as_str-in-Err-enter_row.ensures.value clash.same clash.named
+    row_met c.args.keys.now (lined_of c.args.row).key (omega arith) c.in-Ok.child (every_row c.args.row)
+    (rw lined_is c.in-Ok.ensures) (rw (lined_is, ← c.as_str-in-Ok.ensures.value) c.in-Err-enter_row.ensures) clash.same
+    (rw (lined_is, ← c.as_str-in-Err-enter_row.ensures.value) clash.named)
 
 pub children_of-loop-element-preserved : goal.children_of-loop-element-preserved
 children_of-loop-element-preserved t c =
     let push = c.push_reserved.ensures in
     record {
-      left = rw push.items (element_made c.in-Some.element c.next.new.self
-          (rw c.in-Some.ensures.steps at c.loop-element.invariant.left) c.in_ok-child.child c.in_ok-child.ensures);
+      left = rw push.items (element_made (rw placed_is at (every_element c.in-Some.element)) c.in_ok-child.ensures
+          (rw (c.in-Some.ensures.steps, placed_is) at c.loop-element.invariant.left));
       room = grind (arith, c.in-Some.ensures.steps, c.loop-element.invariant.room, push.len, push.capacity);
     }
 
@@ -133,8 +129,7 @@ take_any_rows-returns-then-are_all_plain t c =
 -- many plain rows, the first of them taken at once
 pub take_many_rows-returns : goal.take_many_rows-returns
 take_many_rows-returns t c =
-    let first_rows = c.in_ok-with_first_rows.ensures in
-    left_taken (first_in c.args.rows.items c.with_first_rows.new.rows c.in_ok-index.count (omega arith) c.requires.none
-    c.requires.plain (rw c.as_slice.ensures.value at c.in_ok-index.ensures.index.distinct)
-    (rw c.drain-rows.ensures at first_rows.after) (rw c.drain-rows.ensures at first_rows.left))
-    (rows_are_keyed [] c.args.rows.items) c.enter_rows.ensures
+    let first_rows = rw c.drain-rows.ensures at c.in_ok-with_first_rows.ensures in
+    first_in (omega arith) _ c.args.rows.items c.in_ok-index.count c.requires.none c.requires.plain
+    (rw c.as_slice.ensures.value at c.in_ok-index.ensures.index.distinct) first_rows.left
+    (rw first_rows.after at c.enter_rows.ensures)

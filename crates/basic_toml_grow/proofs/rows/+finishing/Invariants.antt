@@ -1,9 +1,11 @@
-use Rattle.std.proofs.Common.{◌≤◌, ◌+◌, ◌-◌, ◌*◌, length}
+use Rattle.std.proofs.Common.{◌≤◌, ◌+◌, ◌-◌, ◌*◌, length, Result}
 use Rattle.std.specs.Vec.{vec_len, vec_capacity}
 use Rattle.basic_toml_value.specs.Nesting.{nesting_limit}
 use Rattle.basic_toml_read.specs.SectionView.{rows_seen, elements_view}
-use Rattle.basic_toml_grow.proofs.RowsLeft.{AreLeft}
-use Rattle.basic_toml_grow.proofs.ElementsLeft.{ElementsAreLeft}
+use Rattle.basic_toml_grow.specs.declared.clash.Clash.{Clash}
+use Rattle.basic_toml_grow.specs.declared.item.Table.{Table}
+use Rattle.basic_toml_grow.specs.Takes.{TakesRows}
+use Rattle.basic_toml_grow.proofs.ValuesMade.{ElementsAreLeft}
 use Rattle.basic_toml_grow.proofs.rows.+finishing.Given as goal
 
 abbrev pub decreases-take_any_rows : goal.decreases-take_any_rows
@@ -30,12 +32,13 @@ decreases-inline_child l = 7 * (nesting_limit - l.level)
 abbrev pub decreases-children_of : goal.decreases-children_of
 decreases-children_of l = 7 * (nesting_limit - l.level) + 2
 
--- what the rows that are left put into the table as it is, all put into it as it was
+-- what the rows that are left come to from the table as it is, all come to from it as it was
 abbrev pub invariant-enter_rows-loop-row : goal.invariant-enter_rows-loop-row
 invariant-enter_rows-loop-row l = record {
   within : length l.left ≤ length l.parents;
-  left : AreLeft l.section l.level (rows_seen l.parents l.fn.rows) l.initial.table
-      (rows_seen l.left l.row-iterator) l.table;
+  left : (after : Table) (r : Result (Unit {0}) Clash)
+      → TakesRows (rows_seen l.left l.row-iterator) l.section l.level l.table after r
+      → TakesRows (rows_seen l.parents l.fn.rows) l.section l.level l.initial.table after r;
 }
 
 abbrev pub invariant-children_of-loop-element : goal.invariant-children_of-loop-element
