@@ -1,6 +1,6 @@
 -- A row put into a table: its first key, and what that key leads to.
 use Rattle.std.proofs.Common.{◌≡◌, ℕ, true, false, List, [], ◌∷◌, ◌++◌, ap, ◌∙◌, refl, sym, Option, Some, None, Result}
-use Rattle.std.proofs.Common.{Ok, Err, arith, map, option_map}
+use Rattle.std.proofs.Common.{Ok, Err, arith, map, option_map, Box, Global}
 use Rattle.std.specs.List.{slice_get}
 use Rattle.std.proofs.lemmas.Result.{IfErr-weaker, IfOk-weaker}
 use Rattle.basic_toml_value.specs.Data.{Data}
@@ -13,8 +13,9 @@ use Rattle.basic_toml_read.specs.KeyText.{key_text_bytes}
 use Rattle.basic_toml_read.specs.SectionView.{header_texts, key_of}
 use Rattle.basic_toml_read.specs.declared.section.Key as keys
 use Rattle.basic_toml_plain.specs.Tries.{by_keys}
-use Rattle.basic_toml_grow.specs.declared.item.Item.TheViews.{out-roll-Table}
-use Rattle.basic_toml_grow.specs.declared.item.Child.{Child}
+use Rattle.basic_toml_grow.specs.declared.item.Item.TheViews.{out-roll-Table, roll-Table}
+use Rattle.basic_toml_grow.specs.declared.item.Item as items
+use Rattle.basic_toml_grow.specs.declared.item.Child.{Child, out-Child}
 use Rattle.basic_toml_grow.specs.declared.item.Table.{Table, out-Table}
 use Rattle.basic_toml_grow.specs.declared.met.Met.{Met}
 use Rattle.basic_toml_grow.specs.Simple.{with_entries}
@@ -22,15 +23,18 @@ use Rattle.basic_toml_grow.specs.Item.{child_trie, empty_table, table_trie, trie
 use Rattle.basic_toml_value.specs.Growth.{with_value, values_of, FindsOrAdds}
 use Rattle.basic_toml_value.specs.declared.pairs.growth.Place.{Place}
 use Rattle.basic_toml_grow.specs.Origins.{child_origins, dotted_of, entry, no_origins, row_origins, table_within}
-use Rattle.basic_toml_grow.specs.Origins.{with_more}
+use Rattle.basic_toml_grow.specs.Origins.{of_table, section_in, table_origin, with_more}
 use Rattle.basic_toml_grow.specs.Rows.{Enters}
 use Rattle.basic_toml_grow.specs.RowStops.{TellsLast}
 use Rattle.basic_toml_grow.specs.Takes.{ExtendsBy, TakesRow}
 use Rattle.basic_toml_grow.proofs.KeysInATrie.{tries_of, at_entered, with_mapped, with_same}
 use Rattle.basic_toml_grow.proofs.ItemTries.{table_entries_trie}
 use Rattle.basic_toml_grow.proofs.LatestInATrie.{mapped_twice}
-use Rattle.basic_toml_grow.proofs.MetTellsStop.{dotted_before, extended_before, last_told, row_told}
-use Rattle.basic_toml_grow.proofs.Origins.RowsPlaceOrigins.{comes_below, origins_on, origins_put}
+use Rattle.basic_toml_grow.proofs.MetTellsStop.{dotted_before, dotted_fields, dotted_table, extended_before}
+use Rattle.basic_toml_grow.proofs.MetTellsStop.{extended_on, last_told, row_told}
+use Rattle.basic_toml_grow.proofs.Origins.RowsPlaceOrigins.{comes_below, dotted_within, or_entry, origins_on}
+use Rattle.basic_toml_grow.proofs.Origins.RowsPlaceOrigins.{origins_put}
+use Rattle.basic_toml_grow.proofs.Origins.OriginsSeen.{child_seen, table_item_seen}
 
 -- a change within another
 within : (changed whole : Option Trie) (inner outer : Trie) (f : Trie → Trie) (r : Result (Unit {0}) Met)
@@ -101,4 +105,24 @@ dots_taken {t = t} {key} {rest} {last} {child} {there} {now} {k} {new} {p} r sam
       origins = IfOk-weaker r _ _ (λ x comes. origins_put t k there now new p e stands (entry dots more)
           (comes_below p.is_new dots (child_origins there) (child_origins now) more (λ is. (fresh is).1) comes)
           ∙ ap (with_more (table_within t)) (sym (origins_on k texts last dots (child_origins child)))) extends.origins;
+    }
+
+-- dots extend a table, and the rest of the row goes into it
+pub dots_extend : {parents : List keys.Key} {last : List ℕ} {child there gone : Child} {old : Box Table Global}
+    {u now : Table} (r : Result (Unit {0}) Met) → (out-Child there).item ≡ items.Table old
+    → (out-Table old.value).named ≡ false → u ≡ roll-Table (dotted_fields old.value) → child_trie gone ≡ table_trie now
+    → child_origins gone ≡ of_table (out-Child there).start (out-Child there).section (table_within now)
+    → TakesRow parents last child u now r → ExtendsBy parents last child there gone r
+dots_extend {parents} {last} {child} {there} {gone} {old} {u} {now} r is named dots same origins takes =
+    let on = rw (← dots) at (dotted_table there old old.value is refl named) in
+    let w = table_within old.value in
+    let more = row_origins (header_texts parents ++ last ∷ []) (dotted_of child) (child_origins child) in
+    let was : table_within u ≡ w = ap table_within dots ∙ dotted_within old.value in
+    let own = table_origin w.made (out-Child there).start (section_in w (out-Child there).section) in record {
+      entered = λ d is_leaf. rw (on, same) (takes.entered d is_leaf);
+      named = IfErr-weaker r _ _ (λ met told. λ d is_leaf. extended_on (map key_of parents) last d (child_trie there)
+          (table_trie u) met on (told d is_leaf)) takes.named;
+      origins = IfOk-weaker r _ _ (λ (x : Unit {0}) (comes : table_within now ≡ with_more (table_within u) more).
+          rw (origins, comes, was, child_seen there, is, table_item_seen) (or_entry own (dotted_of child) w.below more))
+          takes.origins;
     }

@@ -4,6 +4,7 @@ use Rattle.std.proofs.Common.{refl, ◌∙◌, rules, append_assoc, slice_get, a
 use Rattle.std.proofs.lemmas.Bool.{and_parts}
 use Rattle.std.proofs.lemmas.List.{append-nil, length-map, take_at, map-append, take-append-drop, take-map}
 use Rattle.std.proofs.lemmas.List.Folds.{list_all-append}
+use Rattle.std.proofs.lemmas.Simd.{map-map}
 use Rattle.std.proofs.lemmas.Slice.Eq.{bytes_eq-Decides}
 use Rattle.basic_toml_index.specs.Keys.{is_among, are_distinct}
 use Rattle.basic_toml_index.proofs.DistinctKeys.{is_among-insert, slice_get-last}
@@ -79,16 +80,11 @@ child_made s r level plain =
 pub all_lower : (l : ℕ) (rows : List Row) → are_all_plain l rows ≡ true → are_all_plain 0 rows ≡ true
 all_lower l [] plain = refl
 all_lower l (r ∷ rs) plain =
-    let own = value_lower (out-Row r).value l (first_plain l r rs plain) in
-    rw (own, all_lower l rs (others_plain l r rs plain)) refl
+    grind (arith, and_parts, value_lower (out-Row r).value l, all_lower l rs)
 
 pub entry_texts : (s : ℕ) (rows : List Row) (entries : List (Pair Child)) → seen entries ≡ entries_of s rows
     → texts_of entries ≡ map key_of rows
-entry_texts s rows entries is = rw (← keys_of-seen entries, is) (keys rows)
-  where
-    keys : (rows : List Row) → keys_of (entries_of s rows) ≡ map key_of rows
-    keys [] = refl
-    keys (r ∷ rs) = rw (keys rs) refl
+entry_texts s rows entries is = rw (← keys_of-seen entries, is, map-map) refl
 
 -- a value that is put last
 last_value : (ps : List (List ℕ × Child)) (k : List ℕ) (c : Child)

@@ -2,9 +2,8 @@
 use Rattle.std.proofs.Common.{◌≡◌, ◌⊎◌, inl, inr, ℕ, true, List, [], ◌∷◌, ◌++◌, map, refl, ◌∙◌, Option, Some, None, Ok}
 use Rattle.std.proofs.Common.{Err, arith, take, drop, length, get_or, ◌<◌, ◌+◌}
 use Rattle.std.specs.Option.{option_or}
-use Rattle.std.specs.Str.{bytes_eq}
 use Rattle.std.proofs.Math.Path.{fun_ext}
-use Rattle.std.proofs.lemmas.Bool.{and_parts, cases_Bool}
+use Rattle.std.proofs.lemmas.Bool.{and_parts}
 use Rattle.std.proofs.lemmas.List.{map-append}
 use Rattle.std.proofs.lemmas.Slice.Eq.{bytes_eq-Decides}
 use Rattle.basic_toml_index.proofs.DistinctKeys.{bytes_eq-same}
@@ -48,13 +47,8 @@ pub none_on : (ends : Ends) (p path : KeyTexts) → value_on ends path ≡ None
 none_on ends [] [] none begun = absurd (cc)
 none_on ends [] (k ∷ path) none begun = none_left (ends []) (value_on (λ q. ends (k ∷ q)) path) none
 none_on ends (l ∷ p) [] none begun = absurd (cc)
-none_on ends (l ∷ p) (k ∷ path) none begun = elim (cases_Bool (bytes_eq l k)) [
-  | inl same ↦
-      let key = (bytes_eq-Decides l k).0 same in
-      let none_later = rw (none_left (ends []) _ none) at none in
-      rw key (none_on (λ q. ends (k ∷ q)) p path none_later (rw (key, bytes_eq-same k) at begun))
-  | inr other ↦ let never = rw other at begun in absurd (cc)
-]
+none_on ends (l ∷ p) (k ∷ path) none begun =
+    grind (arith, none_left (ends []) _ none, bytes_eq-Decides l k, none_on (λ q. ends (k ∷ q)) p path)
 
 pub keys_same : (p : KeyTexts) → same_keys p p ≡ true
 keys_same [] = refl
@@ -73,15 +67,12 @@ module _ (ends : Ends) (path : KeyTexts) (at : ℕ) where
   row_ends free = record {
     free = free;
     kept = λ p s e. rw e refl;
-    stands = stands;
+    stands = elim (some_or_none (ends path)) [
+      | inl some ↦ (some.0, rw some.1 refl)
+      | inr none ↦ (at, rw (none, keys_same path) refl)
+    ];
     told = λ p s e. grind (arith, keys_are p path);
   }
-    where
-      stands : (s : ℕ) × (and_end ends path at path ≡ Some s)
-      stands = elim (some_or_none (ends path)) [
-        | inl some ↦ (some.0, rw some.1 refl)
-        | inr none ↦ (at, rw (none, keys_same path) refl)
-      ]
 
   -- and what ends where is known by that
   pub follows_so : (after : Ends) → Follows ends after path at → (p : KeyTexts) → after p ≡ and_end ends path at p

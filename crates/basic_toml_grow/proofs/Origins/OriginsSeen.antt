@@ -5,7 +5,7 @@ use Rattle.std.specs.Option.{option_or}
 use Rattle.std.proofs.Math.Path.{fun_ext}
 use Rattle.std.proofs.lemmas.Bool.{cases_Bool}
 use Rattle.std.proofs.lemmas.Slice.Eq.{bytes_eq-Decides}
-use Rattle.basic_toml_value.specs.Pairs.{has_key, value_at}
+use Rattle.basic_toml_value.specs.Pairs.{value_at}
 use Rattle.basic_toml_grammar.specs.Standing as standings
 use Rattle.basic_toml_grammar.specs.Steps.{key, Path}
 use Rattle.basic_toml_grammar.specs.Trie.{trie, no_tries}
@@ -98,13 +98,8 @@ module _ {gives : Child → Type 0} (t u : Table) (there gone : Child) (k : List
     (put : (out-Table u).entries ≡ with_value new p.position gone) where
   stood : (q : Path) → table_origins t (key k ∷ q) ≡ origins_before p.is_new (child_origins there) q
   stood q =
-      let old = (out-Table t).entries in
-      seen_at_key t k q ∙ elim (cases_Bool (has_key old k)) [
-        | inl is ↦
-            let same : new ≡ old = rw is at e.entered.pairs in
-            rw (← same, first_at new p.position k there e.entered.at e.entered.first stands, e.is_new, is) refl
-        | inr is ↦ rw (none_at old k is, e.is_new, is) refl
-      ]
+      let at = first_at new p.position k there e.entered.at e.entered.first stands in
+      seen_at_key t k q ∙ grind (arith, e.is_new, e.entered.pairs, at, none_at (out-Table t).entries k)
 
   pub stands_now : (q : Path) → table_origins u (key k ∷ q) ≡ child_origins gone q
   stands_now q =

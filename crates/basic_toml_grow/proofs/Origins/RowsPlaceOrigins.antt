@@ -7,15 +7,14 @@ use Rattle.basic_toml_grammar.specs.Steps.{key}
 use Rattle.basic_toml_grow.specs.declared.item.Item.{the_lemmas}
 use Rattle.basic_toml_grow.specs.declared.item.Item as items
 use Rattle.basic_toml_grow.specs.declared.item.Item.TheViews.{roll-Child, roll-Table, out-roll-Table}
-use Rattle.basic_toml_grow.specs.declared.item.Child.{Child, out-Child}
+use Rattle.basic_toml_grow.specs.declared.item.Child.{Child}
 use Rattle.basic_toml_grow.specs.declared.item.Table.{Table, out-Table}
 use Rattle.basic_toml_grow.specs.Simple.{with_entries}
 use Rattle.basic_toml_value.specs.Growth.{with_value, values_of, FindsOrAdds}
 use Rattle.basic_toml_value.specs.declared.pairs.growth.Place.{Place}
-use Rattle.basic_toml_grow.specs.Origins.{Origin, Origins, no_origins, entry, Within, table_origin, child_origins}
-use Rattle.basic_toml_grow.specs.Origins.{of_table, section_in, table_within, with_more, or_else, origins_before}
-use Rattle.basic_toml_grow.specs.Origins.{beyond, row_origins}
-use Rattle.basic_toml_grow.proofs.Origins.OriginsSeen.{child_seen, table_seen, table_item_seen, grows_at}
+use Rattle.basic_toml_grow.specs.Origins.{Origin, Origins, no_origins, entry, Within, child_origins, of_table}
+use Rattle.basic_toml_grow.specs.Origins.{table_within, with_more, or_else, origins_before, beyond, row_origins}
+use Rattle.basic_toml_grow.proofs.Origins.OriginsSeen.{grows_at}
 use Rattle.basic_toml_grow.proofs.MetTellsStop.{dotted_fields}
 
 pub origins_on : (k : List ℕ) (ks : KeyTexts) (last : List ℕ) (o : Origin) (below : Origins)
@@ -37,7 +36,7 @@ origins_put t k there now new p e stands below comes =
     (λ r is. ap (λ f. f r) comes)))) (search (rules, the_lemmas))
 
 -- an origin here, and what comes below it beside what was there; and what comes below a new table
-or_entry : (o u : Origin) (f g : Origins) → entry o (or_else f g) ≡ or_else (entry o f) (entry u g)
+pub or_entry : (o u : Origin) (f g : Origins) → entry o (or_else f g) ≡ or_else (entry o f) (entry u g)
 or_entry o u f g = fun_ext (λ p. grind arith)
 
 pub comes_below : (is_new : Bool) (o : Origin) (f g row : Origins) → (is_new ≡ true → f ≡ entry o no_origins)
@@ -48,22 +47,9 @@ comes_below false o f g row fresh comes = comes
 
 -- a table that is now dotted
 pub dotted_within : (d : Table) → table_within (roll-Table (dotted_fields d)) ≡ table_within d
-dotted_within d =
-    rw (table_seen (roll-Table (dotted_fields d)), out-roll-Table (dotted_fields d), table_seen d) refl
+dotted_within d = search (rules, the_lemmas)
 
 pub child_of_table : (t : Box Table Global) (at s : ℕ)
     → child_origins (roll-Child (record { start = at; section = s; item = items.Table t }))
     ≡ of_table at s (table_within t.value)
 child_of_table t at s = search (rules, the_lemmas)
-
--- dots that extend a table: what the row brings comes beside what was there
-pub table_extended : (there : Child) (old : Box Table Global) (u now : Table) (row : Origins) (o : Origin)
-    → (out-Child there).item ≡ items.Table old → table_within u ≡ table_within old.value
-    → table_within now ≡ with_more (table_within u) row
-    → of_table (out-Child there).start (out-Child there).section (table_within now)
-    ≡ or_else (child_origins there) (entry o row)
-table_extended there old u now row o is same more =
-    let w = table_within old.value in
-    let s = section_in w (out-Child there).section in
-    rw (more, same, child_seen there, is, table_item_seen old (out-Child there).start (out-Child there).section)
-    (or_entry (table_origin w.made (out-Child there).start s) o w.below row)
