@@ -1,6 +1,6 @@
 -- Rows with their values, put into a table of a level one after another: what they come to, and what keeps them out.
-use Rattle.std.proofs.Common.{◌≡◌, ◌≤◌, ℕ, ◌+◌, ◌-◌, false, true, List, [], ◌∷◌, ◌++◌, length, map, None, Option, refl}
-use Rattle.std.proofs.Common.{Ok, Err, Result, sym, ap, ◌∙◌, arith, option_map}
+use Rattle.std.proofs.Common.{◌≡◌, ◌≤◌, ℕ, ◌+◌, ◌-◌, false, true, List, [], ◌∷◌, ◌++◌, length, map, None, refl, Ok, Err}
+use Rattle.std.proofs.Common.{Result, sym, ap, ◌∙◌, arith, option_map}
 use Rattle.std.specs.Option.{option_or}
 use Rattle.std.proofs.Math.Bool.{or-false}
 use Rattle.std.proofs.Math.Path.{fun_ext}
@@ -103,19 +103,18 @@ module _ {s level : ℕ} {ks : List Key} {at : ℕ} {v : Raw} {rest : Rows} {old
       apart : value_clashes v ≡ false
       apart = sym (clash_alone ks at v) ∙ one.entered.apart
 
-      put : (o : Option Trie) → put_rows rest (table_trie now) ≡ o → put_rows (row ks at v rest) (table_trie old) ≡ o
-      put o is =
-          ap (λ o. and_then o (λ t. put_rows rest t)) (sym (put_alone ks at v (table_trie old)) ∙ one.entered.put) ∙ is
+      put : put_rows (row ks at v rest) (table_trie old) ≡ put_rows rest (table_trie now)
+      put = ap (λ o. and_then o (λ t. put_rows rest t)) (sym (put_alone ks at v (table_trie old)) ∙ one.entered.put)
 
       go : (r : Result (Unit {0}) Clash) → EntersRows rest level (table_trie now) (table_trie after) r
           → EntersRows (row ks at v rest) level (table_trie old) (table_trie after) r
       go (Ok x) entered = record {
-        put = put _ entered.put;
+        put = put ∙ entered.put;
         apart = put_apart (row ks at v rest) (table_trie old) (table_trie after) keyed
-            (or_from _ _ apart (values_apart rest entered.apart)) (put _ entered.put);
+            (or_from _ _ apart (values_apart rest entered.apart)) (put ∙ entered.put);
         fits = omega (arith, one.entered.fits, entered.fits);
       }
-      go (Err clash) kept = grind (arith, or_right, put None)
+      go (Err clash) kept = grind (arith, or_right, put)
 
 -- a row with its value
 module _ (parents : List keys.Key) (k : Key) where

@@ -1,7 +1,7 @@
 -- The rows of a section that stay as they were read: few and simple ones, without a parent.
 use Rattle.std.proofs.Common.{◌≡◌, ℕ, ◌+◌, ◌≤◌, Bool, true, false, List, [], ◌∷◌, length, ◌==◌, ap, ap₂, sym, ◌∙◌}
-use Rattle.std.proofs.Common.{arith, rules, Vec, Box, Global, Ok, length-append, option_map}
-use Rattle.std.proofs.lemmas.List.{length-map, map-append}
+use Rattle.std.proofs.Common.{arith, rules, Vec, Box, Global, Ok, length-append}
+use Rattle.std.proofs.lemmas.List.{length-map, map_push}
 use Rattle.std.specs.Prelude.{vec_len}
 use Rattle.basic_toml_value.specs.Nesting.{nesting_limit}
 use Rattle.basic_toml_read.specs.declared.section.Raw as raws
@@ -9,9 +9,8 @@ use Rattle.basic_toml_read.specs.declared.section.Row.{Row}
 use Rattle.basic_toml_read.specs.declared.section.Rows as tables
 use Rattle.basic_toml_read.specs.SectionView.{rows_seen, rows_view}
 use Rattle.basic_toml_plain.specs.Plain.{are_few_simple}
-use Rattle.basic_toml_grammar.specs.Trie.{count, nothing, put_element, put_table}
-use Rattle.basic_toml_plain.specs.PlainTables.{SectionTable, SectionTables, tables_in, with_table}
-use Rattle.basic_toml_plain.specs.Tries.{rows_trie}
+use Rattle.basic_toml_grammar.specs.Trie.{count, nothing}
+use Rattle.basic_toml_plain.specs.PlainTables.{SectionTables, tables_in, with_table}
 use Rattle.basic_toml_plain.proofs.WhatIsLeft.{nothing_left}
 use Rattle.basic_toml_grow.specs.declared.item.Item as items
 use Rattle.basic_toml_grow.specs.declared.item.Child.{Child, out-Child}
@@ -22,7 +21,7 @@ use Rattle.basic_toml_grow.proofs.RowValues.{no_parents_seen}
 use Rattle.basic_toml_grow.proofs.SectionsEntered.{section_entered, section_grows, section_marks, seen, added_grows}
 use Rattle.basic_toml_grow.proofs.SectionsEntered.{added_in, added_marks, tries}
 use Rattle.basic_toml_grow.proofs.HeadersEntered.{holding, holding_trie}
-use Rattle.basic_toml_grow.proofs.HeadersInATrie.{array_of, enter_latest, fresh, put_next}
+use Rattle.basic_toml_grow.proofs.HeadersInATrie.{enter_latest, fresh, put_next}
 use Rattle.basic_toml_grow.proofs.ItemTries.{child_item_trie}
 use Rattle.basic_toml_grow.proofs.TablesOpened.{sections_trie}
 use Rattle.basic_toml_grow.proofs.Origins.OriginsSeen.{child_seen, section_item_seen, sections_seen}
@@ -98,20 +97,17 @@ stay_in_next {rows} {n} {level} {child} {is_new} old after stay low here was mor
     let at = (out-Child child).start in
     let z = (out-Child child).section in
     let trie = child_item_trie child ∙ ap item_trie was in
-    let many = length-map old.value.0 (λ (t : SectionTable). rows_trie t.1) in
-    let one_more = length-append old.value.0 (old.value.1 ∷ []) in
-    let counted : count (item_trie (items.Sections old)) ≡ length before = ap count (sections_trie old) ∙ omega arith in
+    let counted : count (item_trie (items.Sections old)) ≡ length before =
+    rw (sections_trie old, length-map, length-append) (omega arith) in
     record {
       entered = rw (stay.seen, here, trie, holding_trie child (items.Sections after))
           (added_in n level own after before more low stay.few (item_trie (items.Sections old))
-          (ap (put_element (seen n own)) (sections_trie old) ∙ put_next (seen n own) (tries old.value.0) _
-          ∙ ap (λ ts. option_map (λ u. array_of ts u) (put_table (seen n own) fresh))
-          (sym (map-append (λ (t : SectionTable). rows_trie t.1) old.value.0 (old.value.1 ∷ [])))));
+          (rw (sections_trie old, map_push) (put_next (seen n own) (tries old.value.0) _)));
       named = tt;
       origins = rw (stay.seen, here, trie, counted, holding_origins child (items.Sections after), child_seen child, was)
           (added_grows n level own after before more at z (item_origins (items.Sections old) at z)
-          (λ r p. ap (λ f. f (r ∷ p)) (sections_seen old at z) ∙ ap (λ os. at_numbers os (r ∷ p))
-          (sym (map-append (section_origins at) old.value.0 (old.value.1 ∷ [])))));
+          (λ r p. rw (sections_seen old at z)
+          (ap (λ os. at_numbers os (r ∷ p)) (sym (map_push (section_origins at) old.value.0 old.value.1)))));
       marks = rw (here, trie, counted, holding_origins child (items.Sections after))
           (added_marks n level own after before more at z);
     }
