@@ -57,8 +57,8 @@ module _ (ends : Ends) (keys : List Key) (at : ℕ) (value : Raw) (left : Rows) 
   row_goes_on : (start : ℕ) → value_on ends path ≡ Some start → Finds ends (row keys at value left) (Some start)
   row_goes_on start on =
       let goes = goes_on_from ends path start on in
-      let faults = dotted_fault start ∷ extending_faults start (steps_of goes.front) left in
-      inl (goes.front, goes.there, rw goes.begun (Contains-get_or faults 0 (dotted_fault start) (omega arith)))
+      let faults = dotted_fault start ∷ extending_faults start (steps_of goes.0) left in
+      inl (goes.0, goes.1, rw goes.2 (Contains-get_or faults 0 (dotted_fault start) (omega arith)))
 
   -- the next row goes on from no value: what is found after it, or in its own
   module _ (free : value_on ends path ≡ None) where

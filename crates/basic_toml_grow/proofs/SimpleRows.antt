@@ -15,7 +15,6 @@ use Rattle.basic_toml_value.specs.Nesting.{nesting_limit}
 use Rattle.basic_toml_value.specs.Pairs.{keys_of, has_key}
 use Rattle.basic_toml_value.proofs.KeysSeen.{keys_of-seen}
 use Rattle.basic_toml_grammar.specs.Mentions.{finished}
-use Rattle.basic_toml_grammar.specs.Sections as spec
 use Rattle.basic_toml_read.specs.SectionView.{lined_of, raw_of, rows_seen}
 use Rattle.basic_toml_read.specs.declared.section.Rows as tables
 use Rattle.basic_toml_read.specs.declared.section.Raw as raws
@@ -30,7 +29,7 @@ use Rattle.basic_toml_plain.specs.Tries.{leaf}
 use Rattle.basic_toml_plain.proofs.PlainValues.{plain_value, value_lower}
 use Rattle.basic_toml_plain.proofs.SimpleKeys.{first_plain, keys_differ, others_plain, simple_are_plain}
 use Rattle.basic_toml_grow.specs.declared.clash.Clash.{Clash}
-use Rattle.basic_toml_grow.specs.declared.item.Item.{Item, the_lemmas}
+use Rattle.basic_toml_grow.specs.declared.item.Item.{the_lemmas}
 use Rattle.basic_toml_grow.specs.declared.item.Item.TheViews.{out-roll-Table}
 use Rattle.basic_toml_grow.specs.declared.item.Child.{Child}
 use Rattle.basic_toml_grow.specs.declared.item.Table.{Table, out-Table}
@@ -43,18 +42,12 @@ use Rattle.basic_toml_grow.proofs.RowValues.{none_taken, row_put, row_taken}
 use Rattle.basic_toml_grow.proofs.RowsEntered.{last_taken}
 
 -- a plain value, as the item that it is kept as
-pub record IsKept (i : Item) (v : spec.Raw) : Type 0 where
-  pub trie : item_trie i ≡ leaf (finished v)
-  pub origins : (at s : ℕ) → item_origins i at s ≡ value_origins s at v
-
 kept_is : (x : Raw-F Raw Element Row tables.Rows) (l : ℕ) → is_plain (roll-Raw x) l ≡ true
-    → IsKept (kept x) (raw_of (roll-Raw x))
+    → (item_trie (kept x) ≡ leaf (finished (raw_of (roll-Raw x))))
+    × ((at s : ℕ) → item_origins (kept x) at s ≡ value_origins s at (raw_of (roll-Raw x)))
 kept_is (Raw-F.Dotted rs) l plain =
     let not_plain : is_plain (roll-Raw (Raw-F.Dotted rs)) l ≡ false = search (rules, raws.the_lemmas) in absurd (cc)
-kept_is _ l plain = record {
-  trie = search (rules, the_lemmas, raws.the_lemmas);
-  origins = λ at s. search (rules, the_lemmas, raws.the_lemmas);
-}
+kept_is _ l plain = (search (rules, the_lemmas, raws.the_lemmas), λ at s. search (rules, the_lemmas, raws.the_lemmas))
 
 -- and as a child
 pub plain_made : {start s level : ℕ} {c : Child} (v : Raw) → is_plain v level ≡ true
@@ -64,9 +57,9 @@ plain_made {start} {s} {level} v plain trie origins dotted =
     let is = rw (roll-out-Raw v) at (kept_is (out-Raw v) level (rw (roll-out-Raw v) plain)) in
     let at = plain_value v level plain in
     record {
-      finished = record { value = trie ∙ is.trie; apart = at.apart; fits = at.fits };
+      finished = record { value = trie ∙ is.0; apart = at.apart; fits = at.fits };
       named = tt;
-      origins = origins ∙ is.origins start s;
+      origins = origins ∙ is.1 start s;
       dotted = dotted;
     }
 

@@ -28,27 +28,22 @@ some_or_none None = inr refl
 some_or_none (Some x) = inl (x, refl)
 
 -- a path goes on from the value that begins there
-pub record GoesOnFrom (before : Ends) (path : KeyTexts) (at : ℕ) : Type 0 where
-  pub front : KeyTexts
-  pub begun : properly_begins (steps_of front) (steps_of path) ≡ true
-  pub there : before front ≡ Some at
-
-pub goes_on_from : (ends : Ends) (path : KeyTexts) (at : ℕ) → value_on ends path ≡ Some at → GoesOnFrom ends path at
-goes_on_from ends [] at e = cc
+pub goes_on_from : (ends : Ends) (path : KeyTexts) (at : ℕ) → value_on ends path ≡ Some at
+    → (front : KeyTexts) × (ends front ≡ Some at) × (properly_begins (steps_of front) (steps_of path) ≡ true)
+goes_on_from ends [] at e = absurd (cc)
 goes_on_from ends (k ∷ path) at e = elim (some_or_none (ends [])) [
-  | inl here ↦ record { front = []; begun = refl; there = here.1 ∙ (rw here.1 at e) }
+  | inl here ↦ ([], here.1 ∙ (rw here.1 at e), refl)
   | inr none ↦
       let x = goes_on_from (λ p. ends (k ∷ p)) path at (rw none at e) in
-      record { front = k ∷ x.front; begun = rw (bytes_eq-same k) x.begun; there = x.there }
+      (k ∷ x.0, x.1, rw (bytes_eq-same k) x.2)
 ]
 
 pub none_on : (ends : Ends) (p path : KeyTexts) → value_on ends path ≡ None
     → properly_begins (steps_of p) (steps_of path) ≡ true → ends p ≡ None
-none_on ends [] [] none begun = absurd (cc)
 none_on ends [] (k ∷ path) none begun = none_left (ends []) (value_on (λ q. ends (k ∷ q)) path) none
-none_on ends (l ∷ p) [] none begun = absurd (cc)
 none_on ends (l ∷ p) (k ∷ path) none begun =
     grind (arith, none_left (ends []) _ none, bytes_eq-Decides l k, none_on (λ q. ends (k ∷ q)) p path)
+none_on ends _ _ none begun = absurd (cc)
 
 pub keys_same : (p : KeyTexts) → same_keys p p ≡ true
 keys_same [] = refl
@@ -56,10 +51,9 @@ keys_same (k ∷ p) = rw (bytes_eq-same k) (keys_same p)
 
 pub keys_are : (p q : KeyTexts) → same_keys p q ≡ true → p ≡ q
 keys_are [] [] e = refl
-keys_are [] (l ∷ q) e = cc
-keys_are (k ∷ p) [] e = cc
 keys_are (k ∷ p) (l ∷ q) e =
     grind (arith, and_parts, (bytes_eq-Decides k l).0, keys_are p q)
+keys_are _ _ e = cc
 
 module _ (ends : Ends) (path : KeyTexts) (at : ℕ) where
   -- a row that goes on from no value is followed
