@@ -14,9 +14,8 @@ use Rattle.basic_toml_grammar.specs.Mentions.{finished}
 use Rattle.basic_toml_grammar.specs.Trie.{Trie, put_row, put_rows}
 use Rattle.basic_toml_grammar.specs.TrieStops.{try_put_row}
 use Rattle.basic_toml_grammar.proofs.Tries.RowsThatOverlapAreRefused.{values_clash, put_apart}
-use Rattle.basic_toml_read.specs.SectionView.{key_of, header_texts, rows_seen, rows_view}
+use Rattle.basic_toml_read.specs.SectionView.{key_of, header_texts}
 use Rattle.basic_toml_read.specs.declared.section.Key as keys
-use Rattle.basic_toml_read.specs.declared.section.Rows as tables
 use Rattle.basic_toml_grow.specs.declared.clash.Clash.{Clash}
 use Rattle.basic_toml_grow.specs.declared.item.Child.{Child}
 use Rattle.basic_toml_grow.specs.declared.item.Table.{Table}
@@ -48,11 +47,6 @@ none_taken {t = t} = record {
   named = tt;
   origins = let w = table_within t in sym (ap (within w.made w.section) (else_none w.below));
 }
-
--- rows without parents
-pub no_parents_seen : (rows : tables.Rows) → (tables.out-Rows rows).parents.items ≡ []
-    → rows_view rows ≡ rows_seen [] (tables.out-Rows rows).rows.items
-no_parents_seen rows none = ap (λ (ks : List keys.Key). rows_seen ks (tables.out-Rows rows).rows.items) none
 
 more_more : (w : Within) (f g : Origins) → with_more (with_more w f) g ≡ with_more w (or_else f g)
 more_more w f g = ap (within w.made w.section) (fun_ext (λ p. grind arith))

@@ -17,7 +17,6 @@ use Rattle.basic_toml_grow.specs.declared.item.Child.{Child, out-Child}
 use Rattle.basic_toml_grow.specs.Item.{child_trie, item_trie}
 use Rattle.basic_toml_grow.specs.Origins.{at_numbers, child_origins, item_origins, no_origins, section_origins}
 use Rattle.basic_toml_grow.specs.Takes.{TakesHeaderAtKey}
-use Rattle.basic_toml_grow.proofs.RowValues.{no_parents_seen}
 use Rattle.basic_toml_grow.proofs.SectionsEntered.{section_entered, section_grows, section_marks, seen, added_grows}
 use Rattle.basic_toml_grow.proofs.SectionsEntered.{added_in, added_marks, tries}
 use Rattle.basic_toml_grow.proofs.HeadersEntered.{holding, holding_trie}
@@ -40,17 +39,14 @@ pub can_stay : {slice : List Row} {is_empty are_few : Bool} (rows : tables.Rows)
 can_stay rows level is empty slice_is few are =
     let parents = (tables.out-Rows rows).parents in
     let none = nothing_left parents.items (grind (arith, is, empty, parents.ok.0)) in
-    record { none = none; seen = no_parents_seen rows none; few = grind (arith, slice_is, few, are) }
+    let seen = ap (λ ks. rows_seen ks (tables.out-Rows rows).rows.items) none in
+    record { none = none; seen = seen; few = grind (arith, slice_is, few, are) }
 
 -- rows that are taken out and put back
 abbrev pub back : tables.Rows → Vec Row Global → Vec Row Global → tables.Rows
-back rows taken kept = tables.roll-Rows (record {
-  parents = (tables.out-Rows (tables.roll-Rows (record {
-    parents = (tables.out-Rows rows).parents;
-    rows = taken;
-  }))).parents;
-  rows = kept;
-})
+back rows taken kept =
+    let out = tables.roll-Rows (record (tables.out-Rows rows) { rows = taken }) in
+    tables.roll-Rows (record (tables.out-Rows out) { rows = kept })
 
 pub back_view : (rows : tables.Rows) (taken kept : Vec Row Global) → kept.items ≡ (tables.out-Rows rows).rows.items
     → rows_view (back rows taken kept) ≡ rows_view rows

@@ -1,7 +1,7 @@
 -- Values that are not plain, as they are made: the elements of an array one after another, and the rows of an inline
 -- table, which is finished as the tree of its rows; what keeps a row out makes rows clash.
 use Rattle.std.proofs.Common.{◌≡◌, ℕ, ◌||◌, List, [], ◌∷◌, ◌++◌, map, Ok, refl, sym, ap, ◌∙◌, arith, append_assoc, max}
-use Rattle.std.proofs.Common.{Option, true, ◌<◌, ◌+◌, false, Some, None, Err, Box, Global, rules, codes}
+use Rattle.std.proofs.Common.{Option, true, ◌<◌, ◌+◌, false, Some, None, Err, Box, Global, rules}
 use Rattle.std.specs.Option.{option_or}
 use Rattle.std.proofs.lemmas.List.{append-nil, map_push}
 use Rattle.std.proofs.lemmas.Bool.{true_from_ne_false}
@@ -23,13 +23,12 @@ use Rattle.basic_toml_grow.specs.declared.item.Table.{Table}
 use Rattle.basic_toml_grow.specs.Clash.{Obstacle}
 use Rattle.basic_toml_grow.specs.Item.{child_trie, empty_table, item_trie, table_trie}
 use Rattle.basic_toml_grow.specs.Obstacles.{elements_obstacle, rows_obstacle}
-use Rattle.basic_toml_grow.specs.Origins.{child_origins, elements_origins, dotted_of, entry, item_origins, rows_origins}
-use Rattle.basic_toml_grow.specs.Origins.{table_origin, value_origin, with_more}
+use Rattle.basic_toml_grow.specs.Origins.{child_origins, elements_origins, dotted_of, item_origins, table_origin}
 use Rattle.basic_toml_grow.specs.Rows.{AreFinished}
 use Rattle.basic_toml_grow.specs.Takes.{MakesChild, TakesRows}
 use Rattle.basic_toml_grow.proofs.NoObstacles.{value_free, rows_aside}
 use Rattle.basic_toml_grow.proofs.ObstaclesPassOn.{behind_low}
-use Rattle.basic_toml_grow.proofs.Origins.OriginsSeen.{inline_seen, fresh_within}
+use Rattle.basic_toml_grow.proofs.Origins.OriginsSeen.{inline_seen, fresh_within, table_origins}
 
 -- elements that are left after some children are made
 pub record ElementsAreLeft (s level : ℕ) (whole : Elements) (made : List Child) (rest : Elements) : Type 0 where
@@ -103,8 +102,6 @@ module _ {rows : Rows} {start s level : ℕ} {old : Table} (keyed : rows_keyed r
           fits = omega (arith, put.fits);
         };
         named = tt;
-        origins = origins ∙ inline_seen table start s
-            ∙ ap (λ w. entry (value_origin (codes "inline table") start s) w.below)
-            (takes.origins ∙ ap (λ w. with_more w (rows_origins s rows)) (fresh_within old empty));
+        origins = rw (origins, inline_seen, table_origins, takes.origins, fresh_within old empty) refl;
         dotted = dotted;
       }

@@ -4,7 +4,7 @@ use Rattle.std.specs.Prelude.{nat_lt}
 use Rattle.std.proofs.lemmas.Bool.{and_from}
 use Rattle.std.proofs.lemmas.Result.{err_from_is_err_and}
 use Rattle.basic_toml_value.specs.Nesting.{nesting_limit}
-use Rattle.basic_toml_read.specs.SectionView.{lined_of}
+use Rattle.basic_toml_read.specs.SectionView.{lined_of, rows_seen}
 use Rattle.basic_toml_read.specs.declared.section.Raw as raws
 use Rattle.basic_toml_read.specs.declared.section.Rows as tables
 use Rattle.basic_toml_read.specs.declared.section.Row.{out-Row}
@@ -17,8 +17,7 @@ use Rattle.basic_toml_plain.proofs.PlainValues.{elements_lower, few_lower}
 use Rattle.basic_toml_plain.proofs.WhatIsLeft.{nothing_left}
 use Rattle.basic_toml_grow.specs.Item.{table_trie}
 use Rattle.basic_toml_grow.proofs.ValuesMade.{element_made, elements_done, inline_made, inline_refused}
-use Rattle.basic_toml_grow.proofs.RowValues.{no_parents_seen, none_taken, row_met, row_put, row_refused, row_taken}
-use Rattle.basic_toml_grow.proofs.RowValues.{value_refused}
+use Rattle.basic_toml_grow.proofs.RowValues.{none_taken, row_met, row_put, row_refused, row_taken, value_refused}
 use Rattle.basic_toml_grow.proofs.SimpleRows.{all_lower, first_in, plain_made}
 use Rattle.basic_toml_grow.proofs.rows.+finishing.Goals as goal
 
@@ -124,7 +123,7 @@ take_any_rows-returns-then-are_all_plain t c =
     let own = tables.out-Rows c.args.rows in
     let none : own.parents.items ≡ [] =
     nothing_left own.parents.items (grind (arith, c.is_empty.ensures, c.if-is_empty.true, own.parents.ok.0)) in
-    rw (no_parents_seen c.args.rows none) c.take_many_rows.ensures
+    rw (ap (λ ks. rows_seen ks own.rows.items) none) c.take_many_rows.ensures
 
 -- many plain rows, the first of them taken at once
 pub take_many_rows-returns : goal.take_many_rows-returns
