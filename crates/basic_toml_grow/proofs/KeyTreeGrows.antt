@@ -1,6 +1,6 @@
 -- A row is followed by a tree, one key after another.
-use Rattle.std.proofs.Common.{◌≡◌, inl, inr, ℕ, List, [], ◌∷◌, ◌++◌, refl, sym, ◌∙◌, map, rules}
-use Rattle.std.proofs.Common.{Option, Some, None, option_map, Result, Ok, Err, arith}
+use Rattle.std.proofs.Common.{◌≡◌, inl, inr, ℕ, List, [], ◌∷◌, ◌++◌, refl, sym, ◌∙◌, map, rules, Option, Some, None}
+use Rattle.std.proofs.Common.{option_map, Result, Ok, Err, arith}
 use Rattle.std.specs.List.{slice_get}
 use Rattle.std.specs.Str.{bytes_eq}
 use Rattle.std.proofs.Math.Path.{fun_ext}
@@ -12,8 +12,7 @@ use Rattle.basic_toml_grammar.specs.Sections.{KeyTexts}
 use Rattle.basic_toml_grow.specs.declared.crossed.KeyTree.{KeyTree, out-KeyTree, roll-KeyTree, the_lemmas}
 use Rattle.basic_toml_grow.specs.declared.crossed.Crossed.{Crossed}
 use Rattle.basic_toml_grow.specs.declared.crossed.Crossed.TheVariants.{Memory, At}
-use Rattle.basic_toml_grow.specs.KeyTree.{ends_below, ends_from, ends_of, no_key_tree, value_on, Follows}
-use Rattle.basic_toml_grow.specs.KeyTree.{FollowsTo}
+use Rattle.basic_toml_grow.specs.KeyTree.{ends_below, ends_from, ends_of, no_key_tree, value_on, Follows, FollowsTo}
 use Rattle.basic_toml_grow.specs.Crossed.{and_end}
 use Rattle.basic_toml_grow.proofs.ValuesOnTheWay.{follows_so, row_ends}
 use Rattle.basic_toml_value.specs.Growth.{with_value, values_of, FindsOrAdds}
@@ -28,19 +27,6 @@ key_tree_ends t = search (rules, the_lemmas)
 pub rolled_below : (end : Option ℕ) (below : List (List ℕ × KeyTree))
     → (out-KeyTree (roll-KeyTree (record { end = end; below = below }))).below ≡ below
 rolled_below end below = search (rules, the_lemmas)
-
--- another tree stands at a position of those below
-abbrev pub filled : KeyTree → List (List ℕ × KeyTree) → ℕ → KeyTree → KeyTree
-filled t new i gone =
-    let mid = roll-KeyTree (record { end = (out-KeyTree t).end; below = new }) in
-    roll-KeyTree (record { end = (out-KeyTree mid).end; below = with_value (out-KeyTree mid).below i gone })
-
-filled_ends : (t : KeyTree) (new : List (List ℕ × KeyTree)) (i : ℕ) (gone : KeyTree) → ends_of (filled t new i gone)
-    ≡ ends_from (out-KeyTree t).end (map (λ p. (p.0, ends_of p.1)) (with_value new i gone))
-filled_ends t new i gone =
-    let is : out-KeyTree (filled t new i gone) ≡ record { end = (out-KeyTree t).end; below = with_value new i gone } =
-    search (rules, the_lemmas) in
-    rw (key_tree_ends (filled t new i gone), is) refl
 
 -- nothing ends where no row is followed yet
 pub nowhere : (path : KeyTexts) → ends_of no_key_tree path ≡ None
@@ -72,10 +58,13 @@ module _ {gives : KeyTree → Type 0} (t there : KeyTree) (k : List ℕ) (new : 
   -- what has gone on stands there then
   module _ (gone : KeyTree) (t_end : (out-KeyTree t).end ≡ None) where
     abbrev u : KeyTree
-    u = filled t new p.position gone
+    u =
+        let mid = roll-KeyTree (record { end = (out-KeyTree t).end; below = new }) in
+        let below = with_value (out-KeyTree mid).below p.position gone in
+        roll-KeyTree (record { end = (out-KeyTree mid).end; below = below })
 
-    abbrev at : ℕ
-    at = p.position
+    u_is : out-KeyTree u ≡ record { end = (out-KeyTree t).end; below = with_value new p.position gone }
+    u_is = search (rules, the_lemmas)
 
     -- the values on the way by the key, at which none ends
     on_is : (path : KeyTexts) → value_on (ends_of t) (k ∷ path) ≡ value_on (ends_of there) path
@@ -83,22 +72,18 @@ module _ {gives : KeyTree → Type 0} (t there : KeyTree) (k : List ℕ) (new : 
         let none : ends_of t [] ≡ None = rw (key_tree_ends t) t_end in
         rw (none, fun_ext stood) refl
 
-    ends_behind : (l : List ℕ) (path : KeyTexts)
-        → ends_of u (l ∷ path) ≡ ends_below (option_map ends_of (value_at (with_value new at gone) l)) path
-    ends_behind l path = rw (filled_ends t new at gone, value_at-map ends_of (with_value new at gone) l) refl
-
     -- where what ends there, what ends here
     ends : (path : KeyTexts) (start : ℕ) → Follows (ends_of there) (ends_of gone) path start → (q : KeyTexts)
         → ends_of u q ≡ and_end (ends_of t) (k ∷ path) start q
-    ends path start deeper [] = rw (filled_ends t new at gone, key_tree_ends t, t_end) refl
+    ends path start deeper [] = rw (key_tree_ends u, u_is, key_tree_ends t, t_end) refl
     ends path start deeper (l ∷ q) = elim (cases_Bool (bytes_eq l k)) [
       | inl same ↦
-          let put = put_at k e.there (out-KeyTree t).below new at e.entered there stands gone in
-          rw ((bytes_eq-Decides l k).0 same, ends_behind k q, put, stood q, bytes_eq-same k)
+          let put = put_at k e.there _ new p.position e.entered there stands gone in
+          rw ((bytes_eq-Decides l k).0 same, ends_at_key u k q, u_is, put, stood q, bytes_eq-same k)
           (follows_so (ends_of there) path start (ends_of gone) deeper q)
       | inr other ↦
-          let kept = kept_elsewhere k e.there (out-KeyTree t).below new at e.entered there stands gone l other in
-          rw (ends_behind l q, kept, ends_at_key t l q, other) (grind arith)
+          let kept = kept_elsewhere k e.there _ new p.position e.entered there stands gone l other in
+          rw (ends_at_key u l q, u_is, kept, ends_at_key t l q, other) (grind arith)
     ]
 
     -- what goes on below goes on here, and so does what goes wrong

@@ -1,6 +1,5 @@
 -- A key that is entered among keys with their values, and what stands at it in the trie of these.
-use Rattle.std.proofs.Common.{◌≡◌, ℕ, suc, zero, false, List, [], ◌∷◌, ◌++◌, refl, take, arith}
-use Rattle.std.proofs.Common.{inl, inr, ap, Option, option_map, Some, map}
+use Rattle.std.proofs.Common.{◌≡◌, ℕ, suc, zero, false, List, [], ◌∷◌, ◌++◌, refl, take, arith, inl, inr, ap, Some, map}
 use Rattle.std.specs.List.{slice_get}
 use Rattle.std.specs.Str.{bytes_eq}
 use Rattle.std.proofs.lemmas.Bool.{cases_Bool, or_parts}
@@ -8,12 +7,12 @@ use Rattle.basic_toml_index.specs.Keys.{is_among}
 use Rattle.basic_toml_value.specs.Pairs.{keys_of, has_key}
 use Rattle.basic_toml_index.proofs.DistinctKeys.{bytes_eq-same, bytes_eq_other}
 use Rattle.basic_toml_grammar.specs.Steps as steps
-use Rattle.basic_toml_grammar.specs.Trie.{Trie, by, nothing, among, find}
+use Rattle.basic_toml_grammar.specs.Trie.{Trie, nothing}
 use Rattle.basic_toml_plain.specs.Tries.{by_keys}
 use Rattle.basic_toml_grow.specs.Item.{trie_before}
 use Rattle.basic_toml_value.specs.Growth.{with_value, values_of, FindsOrAdds}
 use Rattle.basic_toml_value.specs.declared.pairs.growth.Place.{Place}
-use Rattle.basic_toml_grow.proofs.LatestInATrie.{mapped_twice}
+use Rattle.basic_toml_grow.proofs.LatestInATrie.{StandsAt, behind}
 
 -- a key that is none of these
 differs : (k l : List ℕ) (ks : List (List ℕ)) → is_among (l ∷ ks) k ≡ false
@@ -41,26 +40,10 @@ module _ {V : Type 0} (f : V → Trie) where
   with_mapped (p ∷ ps) zero v = refl
   with_mapped (p ∷ ps) (suc i) v = ap (λ ps. (p.0, f p.1) ∷ ps) (with_mapped ps i v)
 
-  -- at a key this trie stands, and a change there is one at a position
-  abbrev pub StandsAt : List (List ℕ × V) → List ℕ → Trie → List (List ℕ × V) → ℕ → Type 0
-  StandsAt old k t new i =
-      (find (steps.key k) (by_keys (tries_of old)) ≡ t)
-      × ((g : Trie → Option Trie) → among (steps.key k) g (by_keys (tries_of old))
-      ≡ option_map (λ u. by_keys (with_value (tries_of new) i u)) (g t))
-
-  -- behind another key
-  behind : (k : List ℕ) (p : List ℕ × V) (old new : List (List ℕ × V)) (t : Trie) (i : ℕ) → bytes_eq p.0 k ≡ false
-      → StandsAt old k t new i → StandsAt (p ∷ old) k t (p ∷ new) (suc i)
-  unfolding tries_of
-  behind k p old new t i other at = (
-    rw other at.0,
-    λ g. rw (other, at.1 g)
-        (mapped_twice (λ ts. by (steps.key p.0) (f p.1) ts) (λ u. by_keys (with_value (tries_of new) i u)) (g t)),
-  )
-
   -- at the first position of a key
   at_first : (ps : List (List ℕ × V)) (i : ℕ) (k : List ℕ) (v : V) → slice_get (keys_of ps) i ≡ Some k
-      → is_among (take i (keys_of ps)) k ≡ false → slice_get (values_of ps) i ≡ Some v → StandsAt ps k (f v) ps i
+      → is_among (take i (keys_of ps)) k ≡ false → slice_get (values_of ps) i ≡ Some v
+      → StandsAt (steps.key k) (by_keys (tries_of ps)) (f v) (λ u. by_keys (with_value (tries_of ps) i u))
   unfolding tries_of
   at_first [] i k v at first there = absurd (cc)
   at_first (p ∷ ps) zero k v at first there =
@@ -69,23 +52,25 @@ module _ {V : Type 0} (f : V → Trie) where
       rw (same, bytes_eq-same k, here) (refl, λ g. refl)
   at_first (p ∷ ps) (suc i) k v at first there =
       let other = differs k p.0 (take i (keys_of ps)) first in
-      behind k p ps ps (f v) i other.0 (at_first ps i k v at other.1 there)
+      behind (steps.key p.0) (steps.key k) (f p.1) _ (f v) _ other.0 (at_first ps i k v at other.1 there)
 
   -- at a key that is none of these, and goes last
   at_last : (ps : List (List ℕ × V)) (i : ℕ) (k : List ℕ) (v : V) → has_key ps k ≡ false
-      → slice_get (keys_of (ps ++ (k, v) ∷ [])) i ≡ Some k → StandsAt ps k nothing (ps ++ (k, v) ∷ []) i
+      → slice_get (keys_of (ps ++ (k, v) ∷ [])) i ≡ Some k → StandsAt (steps.key k) (by_keys (tries_of ps)) nothing
+      (λ u. by_keys (with_value (tries_of (ps ++ (k, v) ∷ [])) i u))
   unfolding tries_of
   at_last [] zero k v absent at = (refl, λ g. refl)
   at_last [] (suc i) k v absent at = absurd (cc)
   at_last (p ∷ ps) zero k v absent at = absurd (grind (arith, bytes_eq-same k))
   at_last (p ∷ ps) (suc i) k v absent at =
       let other = differs k p.0 (keys_of ps) absent in
-      behind k p ps (ps ++ (k, v) ∷ []) nothing i other.0 (at_last ps i k v other.1 at)
+      behind (steps.key p.0) (steps.key k) (f p.1) _ nothing _ other.0 (at_last ps i k v other.1 at)
 
   -- at a key that is entered
   pub at_entered : {gives : V → Type 0} (k : List ℕ) (old new : List (List ℕ × V)) (p : Place)
       (e : FindsOrAdds gives k old new p) (there : V) → slice_get (values_of new) p.position ≡ Some there
-      → StandsAt old k (trie_before p.is_new (f there)) new p.position
+      → StandsAt (steps.key k) (by_keys (tries_of old)) (trie_before p.is_new (f there))
+      (λ u. by_keys (with_value (tries_of new) p.position u))
   at_entered k old new p e there stands = elim (cases_Bool (has_key old k)) [
     | inl is ↦
         let same : new ≡ old = rw is at e.entered.pairs in

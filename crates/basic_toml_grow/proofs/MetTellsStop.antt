@@ -1,5 +1,5 @@
 -- What a row meets tells what stops it, key by key.
-use Rattle.std.proofs.Common.{rules, ◌≡◌, ℕ, ◌+◌, Bool, true, false, ◌||◌, List, [], ◌∷◌, ◌++◌, refl, sym}
+use Rattle.std.proofs.Common.{rules, ◌≡◌, ℕ, suc, ◌+◌, Bool, true, false, ◌||◌, List, [], ◌∷◌, ◌++◌, refl}
 use Rattle.std.proofs.Common.{ap, ◌∙◌, Option, Some, None, Err, length, take, map, Box, Global, arith}
 use Rattle.std.proofs.lemmas.List.{append-nil, append_assoc, length-append, length-map}
 use Rattle.std.specs.List.{slice_get}
@@ -27,7 +27,7 @@ use Rattle.basic_toml_grow.specs.declared.met.Met.TheVariants as mets
 use Rattle.basic_toml_grow.specs.Item.{child_trie, table_trie, item_trie, empty_table, trie_before}
 use Rattle.basic_toml_value.specs.Growth.{values_of, FindsOrAdds}
 use Rattle.basic_toml_value.specs.declared.pairs.growth.Place.{Place}
-use Rattle.basic_toml_grow.specs.RowStops.{key_at, TellsStop, TellsLast, TellsRow, TellsExtended}
+use Rattle.basic_toml_grow.specs.RowStops.{key_at, StopsAtKey, TellsStop, TellsLast, TellsRow, TellsExtended}
 use Rattle.basic_toml_grow.specs.Takes.{ExtendsBy}
 use Rattle.basic_toml_grow.proofs.KeysInATrie.{at_entered}
 use Rattle.basic_toml_grow.proofs.ItemTries.{child_item_trie, table_entries_trie}
@@ -60,15 +60,20 @@ by_headers (Some (standings.table p n d)) = p || n
 by_headers (Some (standings.array n)) = true
 by_headers _ = false
 
-trie_stands : (t : Trie) → by_headers (standing t) ≡ true → TellsLast t (mets.Header 1)
-trie_stands (trie s v ts) made = λ before k d. record {
+-- the first key stops
+at_first : {before : KeyTexts} {k : Key} {rest : List Key} {left : ℕ} {o : Outcome Trie} → left ≡ suc (length rest)
+    → o ≡ stops (at_row before k) → StopsAtKey before (k ∷ rest) left o
+at_first {before} {k} {rest} count stop = record {
   front = [];
   there = k;
-  rest = [];
+  rest = rest;
   parts = refl;
-  count = refl;
-  stop = rw (append-nil before) (grind arith);
+  count = count;
+  stop = rw append-nil stop;
 }
+
+trie_stands : (t : Trie) → by_headers (standing t) ≡ true → TellsLast t (mets.Header 1)
+trie_stands (trie s v ts) made = λ before k d. at_first refl (grind arith)
 
 pub headers_stand : (c : Child) (i : items.Item) → (out-Child c).item ≡ i
     → by_headers (standing (item_trie i)) ≡ true → TellsLast (child_trie c) (mets.Header 1)
@@ -91,40 +96,36 @@ module _ {gives : Child → Type 0} (before : Table) (k : List ℕ) (new : List 
   abbrev stood : Trie
   stood = trie_before p.is_new (child_trie there)
 
-  -- a change at the key that stops
-  step_stops : (g : Trie → Outcome Trie) (x : Stop) → g stood ≡ stops x
-      → try_step (steps.key k) g (table_trie before) ≡ stops x
-  step_stops g x stop =
+  -- what is told of a change of it is told of the change at the key
+  step_told : (g : Trie → Outcome Trie) (front : KeyTexts) (keys : List Key) (last : Key) (met : Met)
+      → TellsStop front keys last (g stood) met
+      → TellsStop front keys last (try_step (steps.key k) g (table_trie before)) met
+  step_told g front keys last met told =
       let entries = ap (below (steps.key k)) (table_entries_trie before) in
       let is = entries ∙ (at_entered child_trie k (out-Table before).entries new p e there stands).0 in
-      path_here (steps.key k ∷ []) g (λ t. stops x) (table_trie before) (ap g is ∙ stop)
-      ∙ path_stop (steps.key k ∷ []) x (table_trie before)
+      told_on front keys last _ _ met (λ x stop. path_here (steps.key k ∷ []) g (λ t. stops x) (table_trie before)
+      (ap g is ∙ stop) ∙ path_stop (steps.key k ∷ []) x (table_trie before)) told
 
   pub last_told : (met : Met) (d : Data) → TellsLast stood met → TellsRow [] k d (table_trie before) met
   last_told met d told = λ front offset.
-      told_on front [] _ _ _ met
-      (λ x stop. step_stops (λ t. try_here (valued d) (last_stop front (key_at offset k)) t) x stop)
-      (told front (key_at offset k) d)
+      let last = key_at offset k in
+      step_told (λ t. try_here (valued d) (last_stop front last) t) front [] last met (told front last d)
 
   pub row_told : (met : Met) (at : ℕ) (ks : List Key) (last : List ℕ) (d : Data) → TellsExtended ks last d stood met
       → TellsRow (key_at at k ∷ ks) last d (table_trie before) met
   row_told met at ks last d told = λ front offset.
       let first = key_at at k in
-      let on : Trie → Outcome Trie = λ t. on_by_dots front first (ks ++ key_at offset last ∷ []) d t in
-      told_on front (first ∷ ks) _ _ _ met
-      (λ x stop. try_row_on front first ks (key_at offset last) d (table_trie before) ∙ step_stops on x stop)
-      (told front first offset)
+      rw (try_row_on front first ks (key_at offset last) d (table_trie before))
+      (step_told (λ t. on_by_dots front first (ks ++ key_at offset last ∷ []) d t) front (first ∷ ks)
+      (key_at offset last) met (told front first offset))
 
 -- what a key that a period follows leads to
 pub extended_on : (ks : List Key) (last : List ℕ) (d : Data) (t u : Trie) (met : Met) → mark_here dotted t ≡ Some u
     → TellsRow ks last d u met → TellsExtended ks last d t met
 extended_on ks last d t u met is told = λ before first offset.
-    let all = ks ++ key_at offset last ∷ [] in
     let on : try_here dotted (λ m. at_row before first) t ≡ goes_on u =
     goes (try_here dotted (λ m. at_row before first) t) u (left_here dotted (λ m. at_row before first) t ∙ is) in
-    told_on before (first ∷ ks) _ _ _ met
-    (λ x stop. ap (λ o. and_on o (λ t. try_put_row (before ++ first.text ∷ []) all d t)) on ∙ stop)
-    (told_further before first ks (key_at offset last) _ met (told (before ++ first.text ∷ []) offset))
+    rw on (told_further before first ks (key_at offset last) _ met (told (before ++ first.text ∷ []) offset))
 
 stopped_here : (before : KeyTexts) (first : Key) (t : Trie) → mark_here dotted t ≡ None
     → try_here dotted (λ m. at_row before first) t ≡ stops (at_row before first)
@@ -135,16 +136,9 @@ pub extended_refused : {now : Child} (parents : List code_keys.Key) (last : List
     → ExtendsBy parents last child there now (Err (mets.Header (length parents + 2)))
 extended_refused parents last child there none = record {
   entered = λ d is_leaf. ap (λ m. and_then m (λ t. put_row (header_texts parents ++ last ∷ []) d t)) none;
-  named = λ d is_leaf before first offset. record {
-    front = [];
-    there = first;
-    rest = map key_of parents ++ key_at offset last ∷ [];
-    parts = refl;
-    count = omega (arith, length-append {A = Key}, length-map parents key_of);
-    stop = ap (λ o. and_on o (λ t. try_put_row (before ++ first.text ∷ [])
-        (map key_of parents ++ key_at offset last ∷ []) d t)) (stopped_here before first (child_trie there) none)
-        ∙ ap (λ b. stops (at_row b first)) (sym (append-nil before));
-  };
+  named = λ d is_leaf before first offset. rw (stopped_here before first (child_trie there) none)
+      (at_first (omega (arith, length-append (map key_of parents) (key_at offset last ∷ []),
+      length-map parents key_of)) refl);
   origins = tt;
 }
 

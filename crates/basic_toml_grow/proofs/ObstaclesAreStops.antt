@@ -1,7 +1,12 @@
 -- What a section meets first tells what it comes to: a stop is what stops it without levels, a level is met only where
--- one is above the limit, and where nothing is met, it goes on within the limit.
+-- one is above the limit, and where nothing is met, it goes on within the limit. So a row that is put within the limit
+-- meets nothing, nor does a value without clashes; and keyed rows meet the same, whatever stands above them.
 use Rattle.std.proofs.Common.{◌≡◌, ◌≤◌, ◌<◌, ◌+◌, ◌-◌, ℕ, zero, suc, Bool, true, false, List, [], ◌∷◌, Option, Some}
 use Rattle.std.proofs.Common.{None, refl, inl, inr, arith, max, length, option_map, add-zero}
+use Rattle.basic_toml_value.specs.Data.{Data}
+use Rattle.basic_toml_grammar.specs.Entering.{rows_keyed, value_keyed}
+use Rattle.basic_toml_grammar.specs.RowClash.{value_clashes}
+use Rattle.basic_toml_grammar.proofs.Naming.WhatIsPutGoesOn.{Goes, row_goes, value_goes}
 use Rattle.std.specs.Option.{option_or}
 use Rattle.std.proofs.lemmas.Bool.{cases_Bool, cases_lt}
 use Rattle.basic_toml_value.specs.Nesting.{nesting_limit}
@@ -13,16 +18,14 @@ use Rattle.basic_toml_grammar.specs.Marks.{MarkKind, passed, by_latest, named, a
 use Rattle.basic_toml_grammar.specs.Standing.{Standing, fits, taken, value_of}
 use Rattle.basic_toml_grammar.specs.Levels.{rows_level, value_level, elements_level}
 use Rattle.basic_toml_grammar.specs.Trie.{Trie, trie, Tries, no_tries, by, nothing, find, below, count, steps_to}
-use Rattle.basic_toml_grammar.specs.Trie.{steps_on, section_level_in}
+use Rattle.basic_toml_grammar.specs.Trie.{steps_on, section_level_in, put_row}
 use Rattle.basic_toml_grammar.specs.Stops.{Stop, header_stop, Outcome, goes_on, stops, and_on, held, held_stop}
 use Rattle.basic_toml_grammar.specs.TrieStops.{outcome_map, try_here, try_among, try_step, try_put_row, try_put_rows}
-use Rattle.basic_toml_grammar.specs.TrieStops.{try_put_value, try_put_elements, try_put_table, try_put_element}
-use Rattle.basic_toml_grammar.specs.TrieStops.{try_go_on, try_by_keys}
+use Rattle.basic_toml_grammar.specs.TrieStops.{try_put_value, try_put_elements, try_put_table, try_go_on, try_by_keys}
 use Rattle.basic_toml_grow.specs.Clash.{Obstacle, too_deep, in_the_way}
 use Rattle.basic_toml_grow.specs.Headers.{highest}
 use Rattle.basic_toml_grow.specs.Obstacles.{above, and_behind, held_obstacle, value_obstacle, elements_obstacle}
-use Rattle.basic_toml_grow.specs.Obstacles.{rows_obstacle, table_obstacle, element_obstacle, obstacle_on, keys_obstacle}
-use Rattle.basic_toml_grow.specs.Obstacles.{first_obstacle}
+use Rattle.basic_toml_grow.specs.Obstacles.{rows_obstacle, table_obstacle, obstacle_on, keys_obstacle, first_obstacle}
 use Rattle.basic_toml_grow.proofs.ObstaclesPassOn.{low, high}
 
 -- what is met first, of something with this highest level
@@ -74,19 +77,6 @@ among_tells s f (by r t ts) tells = elim (cases_Bool (step_eq r s)) [
   | inr other ↦ rw other (map_tells (λ ts. by r t ts) (among_tells s f ts (rw other at tells)))
 ]
 
--- A mark and a step: the mark changes nothing below, and its level is no higher than that of what is behind it.
-further : {n : ℕ} (k : MarkKind) (name : Option Standing → Stop) (s : Step) (l : ℕ) (t : Trie)
-    (f : Trie → Option Obstacle) (g : Trie → Outcome Trie) → l ≤ n → Tells (f (below s t)) (g (below s t)) n
-    → Tells (option_or (above l) (and_behind (try_here k name t) (λ u. f (below s u))))
-    (and_on (try_here k name t) (λ u. try_step s g u)) n
-further {n} k name s l (trie st v ts) f g within tells =
-    let highest : max l n ≡ n = omega arith in
-    rw (← highest) (level_tells l (elim (cases_Bool (fits k st)) [
-      | inl is ↦ rw is (map_tells (λ ts. trie (Some (taken k st)) (option_or v (value_of k)) ts)
-          (among_tells s g ts tells))
-      | inr other ↦ rw other (stop_met (name st))
-    ]))
-
 mutual
   rows_tell : (l : ℕ) (rows : Rows) (t : Trie)
       → Tells (rows_obstacle l rows t) (try_put_rows rows t) (rows_level l rows)
@@ -105,43 +95,50 @@ mutual
   elements_tell l no_elements = none_met nothing (omega arith)
   elements_tell l (element at v es) = first_tells (value_tells l v) (elements_tell l es)
 
-table_tells : (l : ℕ) (rows : Rows) (t : Trie)
-    → Tells (table_obstacle l rows t) (try_put_table rows t) (highest l rows)
-table_tells l rows t =
-    level_tells l (behind_tells (try_here named (header_stop named 0) t) (λ t. rows_tell l rows t))
+-- A change of a trie on each level, behind which the table of these rows is on a level that the trie tells.
+module _ (rows : Rows) where
+  abbrev TellsOn : (ℕ → Trie → Option Obstacle) → (Trie → Outcome Trie) → (Trie → ℕ) → Type 0
+  TellsOn f g h = (l m : ℕ) (t : Trie) → l + h t ≡ m → Tells (f l t) (g t) (highest m rows)
 
-on_tells : {f : ℕ → Trie → Option Obstacle} {g : Trie → Outcome Trie} (h : Trie → ℕ) (rows : Rows) (left l m n : ℕ)
-    (t : Trie) → ((l m : ℕ) (t : Trie) → l + h t ≡ m → Tells (f l t) (g t) (highest m rows)) → l + steps_on h n t ≡ m
-    → Tells (obstacle_on f left l n t) (try_go_on g left n t) (highest m rows)
-on_tells h rows left l m zero t more same = more l m t same
-on_tells {f} {g} h rows left l m (suc n) t more same =
-    further by_latest (header_stop by_latest left) (number n) l t (λ t. f (l + 1) t) g (omega arith)
-    (more (l + 1) m (below (number n) t) (omega arith))
+  table_tells : TellsOn (λ l t. table_obstacle l rows t) (λ t. try_put_table rows t) (λ t. 0)
+  table_tells l m t same =
+      rw (← same, add-zero)
+      (level_tells l (behind_tells (try_here named (header_stop named 0) t) (λ t. rows_tell l rows t)))
 
--- on by the keys of a header
-keys_tell : (a : Bool) (rows : Rows) (keys : KeyTexts) (l m : ℕ) (t : Trie) → l + steps_to a keys t ≡ m
-    → Tells (keys_obstacle a rows keys l t) (try_by_keys a rows keys t) (highest m rows)
-keys_tell a rows [] l m t same = rw (← same, add-zero) (table_tells l rows t)
-keys_tell true rows (k ∷ []) l m t same =
-    let here = below (key k) t in
-    let last : (l + 1) + 1 ≡ m = omega arith in
-    further passed (header_stop passed 1) (key k) l t (λ t. element_obstacle (l + 1) rows t)
-    (λ t. try_put_element rows t) (omega arith) (further added (header_stop added 0) (number (count here)) (l + 1) here
-    (λ t. table_obstacle ((l + 1) + 1) rows t) (λ t. try_put_table rows t) (omega arith)
-    (rw (← last) (table_tells ((l + 1) + 1) rows (below (number (count here)) here))))
-keys_tell false rows (k ∷ []) l m t same =
-    further passed (header_stop passed 1) (key k) l t
-    (λ t. obstacle_on (λ l t. table_obstacle l rows t) 0 (l + 1) (count t) t)
-    (λ t. try_go_on (λ t. try_put_table rows t) 0 (count t) t) (omega arith)
-    (on_tells (λ t. 0) rows 0 (l + 1) m (count (below (key k) t)) (below (key k) t)
-    (λ l m t. keys_tell false rows [] l m t) (omega arith))
-keys_tell a rows (k ∷ j ∷ keys) l m t same =
-    let left = length (j ∷ keys) in
-    further passed (header_stop passed (suc left)) (key k) l t
-    (λ t. obstacle_on (λ l t. keys_obstacle a rows (j ∷ keys) l t) left (l + 1) (count t) t)
-    (λ t. try_go_on (λ t. try_by_keys a rows (j ∷ keys) t) left (count t) t) (omega arith)
-    (on_tells (λ t. steps_to a (j ∷ keys) t) rows left (l + 1) m (count (below (key k) t)) (below (key k) t)
-    (λ l m t. keys_tell a rows (j ∷ keys) l m t) (omega arith))
+  module _ {f : ℕ → Trie → Option Obstacle} {g : Trie → Outcome Trie} (h : Trie → ℕ) (on : TellsOn f g h) where
+    -- a mark and a step before it: the mark changes nothing below
+    step_tells : (k : MarkKind) (name : Option Standing → Stop) (s : Step) (l m : ℕ) (t : Trie)
+        → l + suc (h (below s t)) ≡ m
+        → Tells (option_or (above l) (and_behind (try_here k name t) (λ u. f (l + 1) (below s u))))
+        (and_on (try_here k name t) (λ u. try_step s g u)) (highest m rows)
+    step_tells k name s l m (trie st v ts) same =
+        let top : max l (highest m rows) ≡ highest m rows = omega arith in
+        rw (← top) (level_tells l (elim (cases_Bool (fits k st)) [
+          | inl is ↦ rw is (map_tells (λ ts. trie (Some (taken k st)) (option_or v (value_of k)) ts)
+              (among_tells s g ts (on (l + 1) m (find s ts) (omega arith))))
+          | inr other ↦ rw other (stop_met (name st))
+        ]))
+
+    -- into the latest of so many elements
+    on_tells : (left n l m : ℕ) (t : Trie) → l + steps_on h n t ≡ m
+        → Tells (obstacle_on f left l n t) (try_go_on g left n t) (highest m rows)
+    on_tells left zero l m t same = on l m t same
+    on_tells left (suc n) l m t same = step_tells by_latest (header_stop by_latest left) (number n) l m t same
+
+  -- on by the keys of a header
+  keys_tell : (a : Bool) (keys : KeyTexts)
+      → TellsOn (λ l t. keys_obstacle a rows keys l t) (λ t. try_by_keys a rows keys t) (λ t. steps_to a keys t)
+  keys_tell a [] l m t same = table_tells l m t same
+  keys_tell true (k ∷ []) l m t same =
+      step_tells (λ t. 1) (λ l m t. step_tells _ table_tells added (header_stop added 0) (number (count t)) l m t)
+      passed (header_stop passed 1) (key k) l m t (omega arith)
+  keys_tell false (k ∷ []) l m t same =
+      step_tells _ (λ l m t. on_tells _ table_tells 0 (count t) l m t) passed (header_stop passed 1) (key k) l m t
+      (omega arith)
+  keys_tell a (k ∷ j ∷ keys) l m t same =
+      let left = length (j ∷ keys) in
+      step_tells _ (λ l m t. on_tells _ (keys_tell a (j ∷ keys)) left (count t) l m t)
+      passed (header_stop passed (suc left)) (key k) l m t (omega arith)
 
 -- a stop that is met first stops without levels, and a level is met first only where one is above the limit
 the_stop : {A : Type 0} {o : Outcome A} {x : Stop} {l : ℕ} → Tells (Some (in_the_way x)) o l → o ≡ stops x
@@ -149,11 +146,51 @@ the_stop (stop_met x) = refl
 
 pub met_stops : (a : Bool) (rows : Rows) (keys : KeyTexts) (l : ℕ) (t : Trie) (x : Stop)
     → keys_obstacle a rows keys l t ≡ Some (in_the_way x) → try_by_keys a rows keys t ≡ stops x
-met_stops a rows keys l t x is = the_stop (rw is at (keys_tell a rows keys l (l + steps_to a keys t) t refl))
+met_stops a rows keys l t x is = the_stop (rw is at (keys_tell rows a keys l (l + steps_to a keys t) t refl))
 
 above_limit : {A : Type 0} {o : Outcome A} {l : ℕ} → Tells (Some too_deep) o l → nesting_limit < l
 above_limit (level_met over) = over
 
 pub met_deep : (s : Section) (t : Trie) → first_obstacle s t ≡ Some too_deep → nesting_limit < section_level_in t s
-met_deep s t is = above_limit (rw is at (keys_tell s.is_array s.rows (texts s.header) 1
+met_deep s t is = above_limit (rw is at (keys_tell s.rows s.is_array (texts s.header) 1
     (suc (steps_to s.is_array (texts s.header) t)) t (omega arith)))
+
+-- a row behind which rows are met, where it is put, its value meets nothing, and it is not above the limit
+pub row_behind : (l : ℕ) (keys : List Key) (at : ℕ) (v : Raw) (rows : Rows) (t u : Trie)
+    → l + length keys - 1 ≤ nesting_limit → value_obstacle (l + length keys - 1) v ≡ None
+    → put_row (texts keys) (finished v) t ≡ Some u
+    → rows_obstacle l (row keys at v rows) t ≡ rows_obstacle l rows u
+row_behind l keys at v rows t u within free put =
+    rw (low (l + length keys - 1) within, free, row_goes [] keys (finished v) t u put) refl
+
+-- a value without clashes meets nothing within the limit
+pub value_free : (l : ℕ) (v : Raw) → value_keyed v ≡ true → value_clashes v ≡ false → value_level l v ≤ nesting_limit
+    → value_obstacle l v ≡ None
+value_free l v keyed apart within = go (value_tells l v) (value_goes v keyed apart) within
+  where
+    go : {m : Option Obstacle} {o : Outcome Trie} {l : ℕ} → Tells m o l → Goes o → l ≤ nesting_limit → m ≡ None
+    go (none_met a low) goes within = refl
+    go (level_met over) goes within = absurd (omega arith)
+    go (stop_met x) goes within = absurd (cc goes.1)
+
+-- what a keyed row comes to does not depend on what stands above it
+row_aside : (k : Key) (ks : List Key) (d : Data) (ts : Tries)
+    → (o : Outcome Tries) × ((u : Option Standing) (w : Option Data)
+    → try_put_row [] (k ∷ ks) d (trie u w ts) ≡ outcome_map (λ ts. trie u w ts) o)
+row_aside k [] d ts = (_, λ u w. refl)
+row_aside k (l ∷ ks) d ts = (_, λ u w. refl)
+
+-- nor does what is behind it
+behind_aside : {f g : Tries → Trie} (o : Outcome Tries) (h : Trie → Option Obstacle)
+    → ((ts : Tries) → h (f ts) ≡ h (g ts)) → and_behind (outcome_map f o) h ≡ and_behind (outcome_map g o) h
+behind_aside (stops x) h same = refl
+behind_aside (goes_on ts) h same = same ts
+
+pub rows_aside : (l : ℕ) (rows : Rows) (s u : Option Standing) (v w : Option Data) (ts : Tries) → rows_keyed rows ≡ true
+    → rows_obstacle l rows (trie s v ts) ≡ rows_obstacle l rows (trie u w ts)
+rows_aside l no_rows s u v w ts keyed = refl
+rows_aside l (row [] at v rows) s u a w ts keyed = absurd (cc)
+rows_aside l (row (k ∷ ks) at v rows) s u a w ts keyed =
+    let o = row_aside k ks (finished v) ts in
+    rw (o.1 s a, o.1 u w, behind_aside {f = λ ts. trie s a ts} {g = λ ts. trie u w ts} o.0
+    (λ t. rows_obstacle l rows t) (λ ts. rows_aside l rows s u a w ts keyed)) refl

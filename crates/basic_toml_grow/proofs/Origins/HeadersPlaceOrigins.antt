@@ -1,61 +1,30 @@
 -- The way of a header through the tree: what its rows bring comes at the way's end, and headers made what stands on it,
 -- of which the section of this one is the latest that leads there. It goes on into the latest element of an array of
 -- tables, or into one that is added.
-use Rattle.std.proofs.Common.{append-nil, inl, inr, ◌≡◌, ℕ, false, List, [], ◌∷◌, refl, ap, sym, ◌∙◌, Box, Global, true}
-use Rattle.std.proofs.Common.{zero, suc, rules, ◌++◌, Option, Some, None, map, arith, length, slice_get, Vec, nat_eq}
-use Rattle.std.proofs.Common.{◌||◌, if◌then◌else◌, bytes_eq}
+use Rattle.std.proofs.Common.{append-nil, inl, inr, ◌≡◌, ℕ, false, List, [], ◌∷◌, refl, ap, sym, ◌∙◌, Box, Global, zero}
+use Rattle.std.proofs.Common.{suc, rules, ◌++◌, Option, Some, None, map, arith, length, slice_get, Vec, nat_eq}
+use Rattle.std.proofs.Common.{if◌then◌else◌, option_to_list}
 use Prim.Native.Nat.compare
-use Rattle.std.specs.Option.{option_or}
 use Rattle.std.proofs.lemmas.Bool.{and_parts, cases_Bool}
-use Rattle.std.proofs.lemmas.Slice.Eq.{bytes_eq-Decides}
 use Rattle.std.proofs.lemmas.Simd.{map-map}
 use Rattle.std.proofs.lemmas.List.{length-map, map_push}
-use Rattle.basic_toml_index.proofs.DistinctKeys.{bytes_eq-same}
 use Rattle.basic_toml_grammar.specs.Steps.{Step, key, Path, begins, number, step_eq}
 use Rattle.basic_toml_grow.specs.declared.item.Item.{the_lemmas, Tables}
 use Rattle.basic_toml_grow.specs.declared.item.Item as items
 use Rattle.basic_toml_grow.specs.declared.item.Child.{Child, out-Child}
 use Rattle.basic_toml_grow.specs.declared.item.Table.{Table}
 use Rattle.basic_toml_grow.specs.Item.{table_trie}
-use Rattle.basic_toml_value.specs.declared.pairs.growth.Place.{Place}
 use Rattle.basic_toml_grow.specs.Origins.{Origin, Origins, child_origins, entry, item_origins, table_within, no_origins}
-use Rattle.basic_toml_grow.specs.Origins.{origins_before, along, under, at_numbers, array_origin, Within, of_table}
-use Rattle.basic_toml_grow.specs.Origins.{or_else}
+use Rattle.basic_toml_grow.specs.Origins.{under, at_numbers, array_origin, Within, of_table}
 use Rattle.basic_toml_grow.specs.Ways.{GrowsAlong, IsMarked, MarksWay, MarksTable}
 use Rattle.basic_toml_grow.proofs.HeadersInATrie.{fresh}
-use Rattle.basic_toml_grow.proofs.HeadersEntered.{holding, Passes}
-use Rattle.basic_toml_grow.proofs.Origins.OriginsSeen.{table_origins, fresh_within, grows_at}
-use Rattle.basic_toml_grow.proofs.Origins.OriginsSeen.{made_seen, section_seen, stands_now, tables_seen, or_none}
+use Rattle.basic_toml_grow.proofs.HeadersEntered.{holding}
+use Rattle.basic_toml_grow.proofs.Origins.OriginsSeen.{table_origins, fresh_within, tables_seen, or_none}
 
 -- a child with another item
 pub holding_origins : (c : Child) (i : items.Item)
     → child_origins (holding c i) ≡ item_origins i (out-Child c).start (out-Child c).section
 holding_origins c i = search (rules, the_lemmas)
-
--- a table that a header passes: what comes into it, and what is marked
-module _ {gives : Child → Type 0} {k : List ℕ} {t u : Table} {p : Place} {there now : Child} {n : ℕ}
-    (pass : Passes gives k t p there now n u) (w : Path) where
-  pub passed_grows : (rows : Origins)
-      → GrowsAlong w rows (origins_before p.is_new (child_origins there)) (child_origins now)
-      → GrowsAlong (key k ∷ w) rows (table_origins t) (table_origins u)
-  passed_grows rows grows x not =
-      grows_at t u there now k pass.entries p pass.entered pass.stands (ap (λ o. o.entries) pass.is) (along w rows) x
-      (λ y is. grows y (rw (is, bytes_eq-same) at not))
-
-  pub passed_marks : MarksWay n w (child_origins now) → MarksTable n (key k ∷ w) (table_within u)
-  passed_marks marks = record {
-    made = made_seen u ∙ ap (λ o. o.passed || o.named) pass.is;
-    section = section_seen u ∙ ap (λ o. o.section) pass.is;
-    below = below;
-  }
-    where
-      below : (s : Step) (q : Path) → begins (s ∷ q) (key k ∷ w) ≡ true → IsMarked n (table_origins u (s ∷ q))
-      below (number m) q on = absurd (cc)
-      below (key l) q on =
-          let parts = and_parts (bytes_eq l k) (begins q w) on in
-          let same : l ≡ k = (bytes_eq-Decides l k).0 parts.0 in
-          rw same (rw (stands_now t u there now k pass.entries p pass.entered pass.stands
-          (ap (λ o. o.entries) pass.is) q) (marks q parts.1))
 
 -- what is not on the way comes from where it came before, also where an item is new
 abbrev pub Keeps : Path → Origins → Origins → Type 0
@@ -71,34 +40,36 @@ pub table_marked : (n : ℕ) (w : Path) (t : Within) (at s : ℕ) → MarksTable
 table_marked n w t at s marks [] on = (marks.made, ap (λ b. if b then t.section else s) marks.made ∙ marks.section)
 table_marked n w t at s marks (r ∷ p) on = marks.below r p on
 
--- an element that may stand last
-abbrev pub last_of : Option Origins → List Origins
-last_of None = []
-last_of (Some x) = x ∷ []
+-- an element after these, where there is one
+last_at : (xs : List Origins) (last : Option Origins) (n : ℕ)
+    → slice_get (xs ++ option_to_list last) n ≡ (if nat_eq n (length xs) then last else slice_get xs n)
+last_at [] None n = grind arith
+last_at [] (Some x) zero = refl
+last_at [] (Some x) (suc n) = rw compare.suc-zero refl
+last_at (y ∷ xs) last zero = rw compare.zero-suc refl
+last_at (y ∷ xs) last (suc n) = rw compare.suc-suc (last_at xs last n)
 
 -- the elements before the last one are as they were; the last has grown, or is new
-pub numbers_grow : (xs : List Origins) (last : Option Origins) (now rows : Origins) (w : Path)
-    → ((s : Step) (q : Path) → begins (s ∷ q) w ≡ false
-    → now (s ∷ q) ≡ or_else (under (slice_get (last_of last) 0)) (along w rows) (s ∷ q))
-    → GrowsAlong (number (length xs) ∷ w) rows (at_numbers (xs ++ last_of last)) (at_numbers (xs ++ now ∷ []))
-numbers_grow xs last now rows w grows [] not = absurd (cc)
-numbers_grow xs last now rows w grows (key k ∷ q) not = refl
-numbers_grow [] last now rows w grows (number zero ∷ []) not = absurd (cc)
-numbers_grow [] last now rows w grows (number zero ∷ s ∷ q) not = grows s q not
-numbers_grow [] None now rows w grows (number (suc m) ∷ q) not = rw compare.suc-zero refl
-numbers_grow [] (Some x) now rows w grows (number (suc m) ∷ q) not = rw compare.suc-zero refl
-numbers_grow (y ∷ xs) last now rows w grows (number zero ∷ q) not = rw compare.zero-suc (sym (or_none (y q)))
-numbers_grow (y ∷ xs) last now rows w grows (number (suc m) ∷ q) not =
-    rw compare.suc-suc (numbers_grow xs last now rows w grows (number m ∷ q) (rw compare.suc-suc at not))
+pub last_grows : (xs : List Origins) (last : Option Origins) (now before rows : Origins) (w : Path) (o : Origin)
+    → ((s : Step) (p : Path) → before (s ∷ p) ≡ at_numbers (xs ++ option_to_list last) (s ∷ p))
+    → GrowsAlong w rows (under last) now
+    → GrowsAlong (number (length xs) ∷ w) rows before (entry o (at_numbers (xs ++ now ∷ [])))
+last_grows xs last now before rows w o same grows [] not = absurd (cc)
+last_grows xs last now before rows w o same grows (key k ∷ q) not = rw (same (key k) q) refl
+last_grows xs last now before rows w o same grows (number n ∷ q) not =
+    rw (same (number n) q, last_at xs last n, last_at xs (Some now) n) (elim (cases_Bool (nat_eq n (length xs))) [
+      | inl is ↦ rw is (grows q (rw is at not))
+      | inr is ↦ rw is (sym (or_none _))
+    ])
 
 -- one more element after these, in the place of which nothing stood
 pub element_grows : (xs : List Origins) (rows before : Origins) (o q : Origin)
     → ((s : Step) (p : Path) → before (s ∷ p) ≡ at_numbers xs (s ∷ p))
     → GrowsAlong (number (length xs) ∷ []) rows before (entry q (at_numbers (xs ++ entry o rows ∷ [])))
-element_grows xs rows before o q same [] not = absurd (cc)
-element_grows xs rows before o q same (s ∷ p) not =
-    rw (same s p) (numbers_grow xs None (entry o rows) rows [] (λ r q not. refl) (s ∷ p) not
-    ∙ ap (λ os. option_or (at_numbers os (s ∷ p)) (along (number (length xs) ∷ []) rows (s ∷ p))) (append-nil xs))
+element_grows xs rows before o q same =
+    last_grows xs None (entry o rows) before rows [] q
+    (λ s p. same s p ∙ ap (λ os. at_numbers os (s ∷ p)) (sym (append-nil xs)))
+    (entry_keeps [] _ rows o (λ s p not. refl))
 
 -- from which nothing comes yet
 pub element_keeps : (xs : List Origins) (before : Origins) (o q : Origin)
@@ -116,18 +87,13 @@ none_below (key k) p = refl
 none_below (number n) p = refl
 
 -- what is marked in the last one
-last_is : {A : Type 0} (xs : List A) (x : A) → slice_get (xs ++ x ∷ []) (length xs) ≡ Some x
-last_is [] x = refl
-last_is (y ∷ xs) x = last_is xs x
-
 pub numbers_marked : (n : ℕ) (w : Path) (xs : List Origins) (x : Origins) (o : Origin) → IsMarked n (Some o)
     → MarksWay n w x → MarksWay n (number (length xs) ∷ w) (entry o (at_numbers (xs ++ x ∷ [])))
 numbers_marked n w xs x o here marks [] on = here
 numbers_marked n w xs x o here marks (key k ∷ q) on = absurd (cc)
 numbers_marked n w xs x o here marks (number i ∷ q) on =
     let parts = and_parts (nat_eq i (length xs)) (begins q w) on in
-    let same : i ≡ length xs = grind (arith, parts.0) in
-    rw (same, last_is xs x) (marks q parts.1)
+    rw (last_at xs (Some x) i, parts.0) (marks q parts.1)
 
 -- the elements of an array of tables
 abbrev pub elements_of : ℕ → ℕ → List Table → List Origins
@@ -147,12 +113,9 @@ pub latest_grows : (old after : Box (Vec Table Global × Table) Global) (w : Pat
     → (at s : ℕ) → GrowsAlong (number (length (map table_trie old.value.0.items)) ∷ w) rows
     (item_origins (Tables old) at s) (item_origins (Tables after) at s)
 latest_grows old after w rows same grows at s =
-    let xs = elements_of at s old.value.0.items in
-    let last = of_table at s (table_within old.value.1) in
-    let now = of_table at s (table_within after.value.1) in
     rw (array_below old at s, array_below after at s, same, as_many at s old.value.0.items)
-    (entry_keeps (number (length xs) ∷ w) _ (at_numbers (xs ++ now ∷ [])) _
-    (λ r q not. numbers_grow xs (Some last) now rows w (λ r q not. grows (r ∷ q) not) (r ∷ q) not))
+    (last_grows (elements_of at s old.value.0.items) (Some _) _ _ rows w _ (λ r q. refl)
+    (entry_keeps w _ (table_origins after.value.1) _ (λ r q not. grows (r ∷ q) not)))
 
 pub latest_marks : (old after : Box (Vec Table Global × Table) Global) (n : ℕ) (w : Path) → after.value.0 ≡ old.value.0
     → MarksTable n w (table_within after.value.1) → (at s : ℕ)

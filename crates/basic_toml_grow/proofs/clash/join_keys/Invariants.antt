@@ -6,4 +6,4 @@ use Rattle.basic_toml_grow.proofs.clash.join_keys.Given as goal
 
 -- the keys passed are joined
 abbrev pub invariant-loop-at : goal.invariant-loop-at
-invariant-loop-at l = string_bytes l.name ≡ join_with_byte period (take l.at (header_texts l.keys))
+invariant-loop-at l = string_bytes l.name ≡ join_with_byte period (header_texts (take l.at l.keys))

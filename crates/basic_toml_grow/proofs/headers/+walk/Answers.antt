@@ -1,4 +1,4 @@
-use Rattle.std.proofs.Common.{ℕ, ◌+◌, [], refl, ap, ◌∙◌, arith, rules}
+use Rattle.std.proofs.Common.{◌≡◌, ℕ, ◌+◌, [], true, refl, ap, ◌∙◌, arith, rules}
 use denote.Hole.Carrier.{out}
 use Rattle.std.specs.Box as boxes
 use Rattle.basic_toml_read.specs.declared.section.Raw as raws
@@ -9,39 +9,45 @@ use Rattle.basic_toml_plain.proofs.PlainValues.{few_lower}
 use Rattle.basic_toml_plain.proofs.WhatIsLeft.{nothing_left}
 use Rattle.basic_toml_grow.specs.declared.item.Item as items
 use Rattle.basic_toml_grow.specs.declared.item.Item.TheViews.{out-Item}
-use Rattle.basic_toml_grow.specs.Headers.{is_last}
+use Rattle.basic_toml_grow.specs.Headers.{IsNew, is_last}
 use Rattle.basic_toml_grow.proofs.HeadersGoOn.{Leads, from_deep_value, from_item, from_key, from_latest, from_none}
-use Rattle.basic_toml_grow.proofs.HeadersGoOn.{from_table, from_value, lead, lead_more, new_stays, not_last}
+use Rattle.basic_toml_grow.proofs.HeadersGoOn.{from_table, from_value, lead, lead_more, no_new_section, not_last}
+use Rattle.basic_toml_grow.proofs.HeadersEntered.{out_holding}
+use Rattle.basic_toml_grow.specs.declared.item.Child.{out-Child}
 use Rattle.basic_toml_grow.proofs.RowsKept.{CanStay, back_view, can_stay, stay_at_key, stay_in_first, stay_in_next}
 use Rattle.basic_toml_grow.proofs.headers.+walk.Goals as goal
 use Rattle.basic_toml_grow.proofs.headers.+walk.Goals.{enter_element-In_ok-place, enter_last-In_ok-kept}
 
 -- what stands at a key leads on to the item from which the code goes on
-leads : (t : ℕ) (c : goal.enter_at-After-enter_item t)
-    → Leads c.args.is_array (rows_view c.args.rows.now) (header_texts c.args.rest.now) (c.args.level + 1)
-    c.args.is_new c.unfold.new.self c.if-is_array.there
+leads : (t : ℕ) (c : goal.enter_at-After-enter_item t) → (item : items.Item)
+    × ((out-Child c.if-is_array.there ≡ record (out-Child c.unfold.new.self) { item = item })
+    × Leads c.args.is_array (rows_view c.args.rows.now) (header_texts c.args.rest.now) (c.args.level + 1)
+    c.args.is_new (out-Child c.unfold.new.self).item item)
 leads t c =
     let keys = c.args.rest.now in
-    let new = new_stays (is_last c.args.is_array (header_texts keys)) c.unfold.new.self c.args.there.now c.args.is_new
-    c.in_ok-unfold.ensures.others c.requires.new in
+    let mid = c.unfold.new.self in
+    let new : c.args.is_new ≡ true → IsNew (is_last c.args.is_array (header_texts keys)) (out-Child mid).item = λ is.
+    rw (c.in_ok-unfold.ensures.others (no_new_section _ _ (c.requires.new is))) (c.requires.new is) in
     elim c.if-is_array.branch [
       | goal.enter_at-then-is_array+then-is_empty+then-not-is_new+in_ok-add_table w ↦
           let none = nothing_left keys (grind (arith, w.is_empty.ensures, w.if-is_empty.true)) in
-          rw (w.if-is_array.true, none, w.if-not-is_new.true)
-          (lead_more w.there-is w.in_ok-add_table.ensures.more)
-      | goal.enter_at-else-is_array w ↦ elim w.else-is_array.branch [
+          rw (w.if-is_array.true, none, w.if-not-is_new.true, w.there-is)
+          (_, (out_holding mid _, lead_more _ _ w.in_ok-add_table.ensures.more))
+      | goal.enter_at-else-is_array w ↦ rw w.there-is (_, (refl, lead _ _ _ _ _ _ new (elim w.else-is_array.branch [
         | goal.enter_at-else-is_array-via-then-is_array+then-is_empty+else-not-is_new v ↦
-            lead _ w.there-is new (λ not. absurd (cc (not, v.if-not-is_new.false)))
+            λ not. absurd (cc (not, v.if-not-is_new.false))
         | goal.enter_at-else-is_array-via-then-is_array+else-is_empty v ↦
-            lead _ w.there-is new (λ not. not_last _ keys (grind (arith, v.is_empty.ensures, v.if-is_empty.false)))
+            λ not. not_last _ keys (grind (arith, v.is_empty.ensures, v.if-is_empty.false))
         | goal.enter_at-else-is_array-via-else-is_array v ↦
-            lead _ w.there-is new (λ not. ap (λ b. is_last b (header_texts keys)) v.if-is_array.false)
-      ]
+            λ not. ap (λ b. is_last b (header_texts keys)) v.if-is_array.false
+      ])))
     ]
 
 pub enter_at-returns-clause-takes : goal.enter_at-returns-clause-takes
 enter_at-returns-clause-takes t c =
-    from_item c.in_ok-unfold.ensures.trie c.in_ok-unfold.ensures.origins (leads t c) c.enter_item.ensures.takes
+    let on = leads t c in
+    from_item c.unfold.new.self c.in_ok-unfold.ensures.trie c.in_ok-unfold.ensures.origins on.1.0 on.1.1
+    c.enter_item.ensures.takes
 
 pub enter_at-returns-in_err-add_table-clause-takes : goal.enter_at-returns-in_err-add_table-clause-takes
 enter_at-returns-in_err-add_table-clause-takes t c =
