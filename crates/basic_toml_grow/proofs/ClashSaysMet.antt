@@ -1,8 +1,7 @@
 -- The clash that is answered for a row says what was met, or what stops its value.
 use Rattle.std.proofs.Common.{◌≡◌, ℕ, ◌+◌, ◌-◌, List, [], ◌∷◌, ◌++◌, refl, ap, ◌∙◌}
-use Rattle.std.proofs.Common.{Some, None, arith, length, take, map}
-use Rattle.std.specs.List.{slice_get}
-use Rattle.std.proofs.lemmas.List.{length-append, length-map}
+use Rattle.std.proofs.Common.{Some, None, arith, length, take, map, length-append, slice_get}
+use Rattle.std.proofs.lemmas.List.{length-map}
 use Rattle.basic_toml_grammar.specs.Sections.{Key, KeyTexts, texts}
 use Rattle.basic_toml_grammar.specs.Trie.{Trie}
 use Rattle.basic_toml_grammar.specs.Stops.{Stop, at_row, Outcome, stops}

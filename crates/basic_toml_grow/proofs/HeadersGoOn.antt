@@ -4,16 +4,16 @@
 -- new, and where it has one table more.
 use Rattle.std.specs.Box as boxes
 use Rattle.std.proofs.Common.{◌≡◌, ◌≤◌, ◌<◌, ℕ, suc, ◌+◌, Bool, true, false, List, [], ◌∷◌, length, map, Some, refl, ap}
-use Rattle.std.proofs.Common.{sym, ◌∙◌, arith, inr, Vec, Box, Global, Result, Err, IsErrAnd, rules, slice_get, bytes_eq}
+use Rattle.std.proofs.Common.{sym, ◌∙◌, arith, inr, Vec, Box, Global, Result, Err, rules, slice_get, bytes_eq}
 use Rattle.std.proofs.Common.{option_map, ◌||◌}
-use Rattle.std.proofs.lemmas.Result.{IfOk-weaker, err_from_is_err_and}
+use Rattle.std.proofs.lemmas.Result.{IfOk-weaker}
 use Rattle.std.proofs.lemmas.List.{map-append}
 use Rattle.basic_toml_value.specs.Nesting.{nesting_limit}
 use Rattle.basic_toml_value.specs.Growth.{FindsOrAdds, with_value, values_of}
 use Rattle.basic_toml_value.specs.declared.pairs.growth.Place.{Place}
 use Rattle.basic_toml_grammar.specs.Sections.{KeyTexts, Rows}
 use Rattle.basic_toml_grammar.specs.Stops.{at_header}
-use Rattle.basic_toml_grammar.specs.Trie.{Trie, put_element, walk, count, steps_on, steps_to, nothing}
+use Rattle.basic_toml_grammar.specs.Trie.{Trie, walk, steps_to, nothing}
 use Rattle.basic_toml_plain.specs.Tries.{leaf, by_keys}
 use Rattle.basic_toml_read.specs.declared.section.Key as code
 use Rattle.basic_toml_read.specs.KeyText.{key_text_bytes}
@@ -24,11 +24,9 @@ use Rattle.basic_toml_grow.specs.declared.item.Item as items
 use Rattle.basic_toml_grow.specs.declared.item.Child.{Child, out-Child}
 use Rattle.basic_toml_grow.specs.declared.item.Table.{Table, out-Table}
 use Rattle.basic_toml_grow.specs.declared.clash.Clash.TheVariants.{Deep, Header}
-use Rattle.basic_toml_grow.specs.Clash.{NamesObstacle}
 use Rattle.basic_toml_grow.specs.Item.{child_trie, item_trie, table_trie, trie_before, is_section}
 use Rattle.basic_toml_grow.specs.Simple.{with_entries}
-use Rattle.basic_toml_grow.specs.Headers.{IsKeptOut, IsNew, highest, is_last, HasOneMore, steps_by, entered_at}
-use Rattle.basic_toml_grow.specs.Obstacles.{element_obstacle}
+use Rattle.basic_toml_grow.specs.Headers.{IsNew, is_last, HasOneMore, steps_by, entered_at}
 use Rattle.basic_toml_grow.specs.Origins.{child_origins, item_origins, origins_before, rows_origins, table_within}
 use Rattle.basic_toml_grow.specs.Origins.{no_origins, along}
 use Rattle.basic_toml_grow.specs.Ways.{way, way_by, IsMarked, MarksWay}
@@ -234,10 +232,8 @@ module _ {a : Bool} {rows : Rows} {level n : ℕ} {i : Item} (keys : List code.K
 
   pub from_deep_value : nesting_limit ≤ level → TakesHeaderInItem a rows (header_texts keys) level n i i (Err Deep)
   from_deep_value high =
-      let seen = other_is_leaf i no_section no_table no_tables in
-      let t = item_trie i in
-      let further : (m : ℕ) → nesting_limit < highest (level + suc m) rows = λ m. omega (arith, high) in record {
-        entered = further (steps_on (λ t. steps_to a (header_texts keys) t) (count t) t);
+      let seen = other_is_leaf i no_section no_table no_tables in record {
+        entered = omega (arith, high);
         named = rw seen.1 (deep_met a rows (header_texts keys) (level + 1) (leaf seen.0) (omega (arith, high)));
         origins = tt;
         marks = tt;
@@ -263,18 +259,3 @@ from_item {a} {rows} {keys} {level} {n} {is_new} {old} {there} mid {item} {now} 
           (IfOk-weaker r _ _ (λ x grows. λ p not. grows at s p not ∙ rw (on.1 at s p not) refl) takes.origins);
       marks = rw (now_is, ← same, child_item_trie mid, way_is) (IfOk-weaker r _ _ (λ x marks. marks at s) takes.marks);
     }
-
--- A child to which no table is added leads on to nothing.
-pub from_none : {rows : Rows} {level n : ℕ} {old now : Child} {r : Result (Unit {0}) Clash} (mid : Child)
-    (clash : Clash) → child_trie mid ≡ child_trie old
-    → ((rows : Rows) → IsKeptOut (put_element rows (item_trie (out-Child mid).item)) rows (level + 2) clash)
-    → ((rows : Rows) → NamesObstacle (element_obstacle (level + 1) rows (item_trie (out-Child mid).item)) clash)
-    → IsErrAnd r (λ f. f ≡ clash) → TakesHeaderAtKey true rows [] level n false old now r
-from_none {rows} {level} {n} {old} {now} {r} mid clash same out named is =
-    let p = err_from_is_err_and r is in
-    rw (p.1, p.2) (record {
-      entered = rw (← same, child_item_trie mid) (out rows);
-      named = rw (← same, child_item_trie mid) (named rows);
-      origins = tt;
-      marks = tt;
-    })

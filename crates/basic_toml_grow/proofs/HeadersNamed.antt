@@ -1,17 +1,13 @@
 -- The keys of a header as the fault of a clash tells them.
-use Rattle.std.proofs.Common.{◌≡◌, ℕ, zero, suc, ◌-◌, ◌<◌, List, [], ◌∷◌, ◌++◌, length, map, take}
-use Rattle.std.proofs.Common.{refl, ◌∙◌, arith, Option, option_map, slice_get, unwrap_or}
+use Rattle.std.proofs.Common.{◌≡◌, ℕ, zero, suc, ◌<◌, List, [], ◌∷◌, ◌++◌, length, map}
+use Rattle.std.proofs.Common.{refl, ◌∙◌, arith, Option, option_map, slice_get, unwrap_or, append_assoc}
 use Rattle.std.specs.List.{join_with_byte}
-use Rattle.std.proofs.lemmas.List.{append_assoc, length-map, take-map}
+use Rattle.std.proofs.lemmas.List.{length-map}
 use Rattle.basic_toml_tokens.specs.Ascii.{period}
 use Rattle.basic_toml_grammar.specs.Sections.{KeyTexts}
-use Rattle.basic_toml_grammar.specs.Faults.{duplicate_key}
 use Rattle.basic_toml_grammar.specs.NamedClash.{nth_key}
-use Rattle.basic_toml_grammar.specs.Stops.{at_header, stop_fault}
-use Rattle.basic_toml_explain.specs.Error.{fault_within}
 use Rattle.basic_toml_read.specs.declared.section.Key as code
-use Rattle.basic_toml_read.specs.declared.section.Section.{Section}
-use Rattle.basic_toml_read.specs.SectionView.{section_of, key_of, header_texts}
+use Rattle.basic_toml_read.specs.SectionView.{key_of, header_texts}
 
 -- the key at a number, or none
 pub nth_is : (keys : List code.Key) (n : ℕ) (o : Option code.Key) → slice_get keys n ≡ o
@@ -22,14 +18,6 @@ nth_is (k ∷ keys) (suc n) o is = nth_is keys n o is
 
 pub texts_count : (keys : List code.Key) → length (header_texts keys) ≡ length keys
 texts_count keys = length-map (map key_of keys) _ ∙ length-map keys key_of
-
--- the fault of a header's key by the keys that are left from it on
-pub header_fault_is : (s : Section) (left n : ℕ) (key : List ℕ) (offset : ℕ) (path : KeyTexts)
-    → n ≡ length s.header.items - left → nth_key n (section_of s).header ≡ record { offset = offset; text = key }
-    → path ≡ header_texts (take n s.header.items)
-    → fault_within (duplicate_key key) offset path ≡ stop_fault (section_of s) (at_header left)
-header_fault_is s left n key offset path number is_key is_path =
-    rw (length-map, ← number, take-map, ← is_path, is_key) refl
 
 -- keys joined by periods, and one more
 pub joined_more : (ks : KeyTexts) (k : List ℕ) → 0 < length ks

@@ -1,8 +1,7 @@
 -- A key that is entered among keys with their values, and what stands at it in the trie of these.
 use Rattle.std.proofs.Common.{◌≡◌, ℕ, suc, zero, false, List, [], ◌∷◌, ◌++◌, refl, take, arith, inl, inr, ap, Some, map}
-use Rattle.std.specs.List.{slice_get}
-use Rattle.std.specs.Str.{bytes_eq}
-use Rattle.std.proofs.lemmas.Bool.{cases_Bool, or_parts}
+use Rattle.std.proofs.Common.{slice_get, bytes_eq}
+use Rattle.std.proofs.lemmas.Bool.{cases_Bool}
 use Rattle.basic_toml_index.specs.Keys.{is_among}
 use Rattle.basic_toml_value.specs.Pairs.{keys_of, has_key}
 use Rattle.basic_toml_index.proofs.DistinctKeys.{bytes_eq-same, bytes_eq_other}
@@ -13,13 +12,6 @@ use Rattle.basic_toml_grow.specs.Item.{trie_before}
 use Rattle.basic_toml_value.specs.Growth.{with_value, values_of, FindsOrAdds}
 use Rattle.basic_toml_value.specs.declared.pairs.growth.Place.{Place}
 use Rattle.basic_toml_grow.proofs.LatestInATrie.{StandsAt, behind}
-
--- a key that is none of these
-differs : (k l : List ℕ) (ks : List (List ℕ)) → is_among (l ∷ ks) k ≡ false
-    → (bytes_eq l k ≡ false) × (is_among ks k ≡ false)
-differs k l ks absent =
-    let both = or_parts (bytes_eq k l) (is_among ks k) absent in
-    (bytes_eq_other l k both.0, both.1)
 
 -- a value that stays
 pub with_same : {V : Type 0} (ps : List (List ℕ × V)) (i : ℕ) (v : V) → slice_get (values_of ps) i ≡ Some v
@@ -51,8 +43,9 @@ module _ {V : Type 0} (f : V → Trie) where
       let here : p.1 ≡ v = cc in
       rw (same, bytes_eq-same k, here) (refl, λ g. refl)
   at_first (p ∷ ps) (suc i) k v at first there =
-      let other = differs k p.0 (take i (keys_of ps)) first in
-      behind (steps.key p.0) (steps.key k) (f p.1) _ (f v) _ other.0 (at_first ps i k v at other.1 there)
+      let other : bytes_eq k p.0 ≡ false = grind (arith, first) in
+      behind (steps.key p.0) (steps.key k) (f p.1) _ (f v) _ (bytes_eq_other p.0 k other)
+      (at_first ps i k v at (grind (arith, first)) there)
 
   -- at a key that is none of these, and goes last
   at_last : (ps : List (List ℕ × V)) (i : ℕ) (k : List ℕ) (v : V) → has_key ps k ≡ false
@@ -63,8 +56,9 @@ module _ {V : Type 0} (f : V → Trie) where
   at_last [] (suc i) k v absent at = absurd (cc)
   at_last (p ∷ ps) zero k v absent at = absurd (grind (arith, bytes_eq-same k))
   at_last (p ∷ ps) (suc i) k v absent at =
-      let other = differs k p.0 (keys_of ps) absent in
-      behind (steps.key p.0) (steps.key k) (f p.1) _ nothing _ other.0 (at_last ps i k v other.1 at)
+      let other : bytes_eq k p.0 ≡ false = grind (arith, absent) in
+      behind (steps.key p.0) (steps.key k) (f p.1) _ nothing _ (bytes_eq_other p.0 k other)
+      (at_last ps i k v (grind (arith, absent)) at)
 
   -- at a key that is entered
   pub at_entered : {gives : V → Type 0} (k : List ℕ) (old new : List (List ℕ × V)) (p : Place)

@@ -1,8 +1,8 @@
 -- What a row meets tells what stops it, key by key.
-use Rattle.std.proofs.Common.{rules, ◌≡◌, ℕ, suc, ◌+◌, Bool, true, false, ◌||◌, List, [], ◌∷◌, ◌++◌, refl}
-use Rattle.std.proofs.Common.{ap, ◌∙◌, Option, Some, None, Err, length, take, map, Box, Global, arith}
-use Rattle.std.proofs.lemmas.List.{append-nil, append_assoc, length-append, length-map}
-use Rattle.std.specs.List.{slice_get}
+use Rattle.std.proofs.Common.{rules, ◌≡◌, ℕ, suc, ◌+◌, Bool, true, false, ◌||◌, List, [], ◌∷◌, ◌++◌, refl, ap, ◌∙◌}
+use Rattle.std.proofs.Common.{Option, Some, None, Err, length, take, map, Box, Global, arith, append-nil, append_assoc}
+use Rattle.std.proofs.Common.{length-append, slice_get}
+use Rattle.std.proofs.lemmas.List.{length-map}
 use Rattle.basic_toml_value.specs.Data.{Data}
 use Rattle.basic_toml_grammar.specs.Sections.{Key, KeyTexts, texts}
 use Rattle.basic_toml_grammar.specs.Steps as steps
@@ -18,7 +18,6 @@ use Rattle.basic_toml_read.specs.declared.section.Key as code_keys
 use Rattle.basic_toml_read.specs.SectionView.{header_texts, key_of}
 use Rattle.basic_toml_grow.specs.declared.item.Item as items
 use Rattle.basic_toml_grow.specs.declared.item.Child.{Child, out-Child}
-use Rattle.basic_toml_grow.specs.declared.item.Item.{the_lemmas}
 use Rattle.basic_toml_grow.specs.declared.item.Item.TheOpen.{Item-F, Table-F}
 use Rattle.basic_toml_grow.specs.declared.item.Item.TheViews.{out-roll-Table}
 use Rattle.basic_toml_grow.specs.declared.item.Table.{Table, out-Table, roll-Table}
@@ -34,12 +33,7 @@ use Rattle.basic_toml_grow.proofs.ItemTries.{child_item_trie, table_entries_trie
 use Rattle.basic_toml_grow.proofs.ItemsStand.{shape}
 use Rattle.basic_toml_grow.proofs.TablesOpened.{table_item_trie}
 
--- what stops one thing stops another
-pub told_on : (before : KeyTexts) (keys : List Key) (k : Key) (o p : Outcome Trie) (met : Met)
-    → ((x : Stop) → o ≡ stops x → p ≡ stops x) → TellsStop before keys k o met → TellsStop before keys k p met
-told_on before keys k o p met on told = grind (arith, on)
-
--- and a key further
+-- what is told of a row, told with a key before it
 told_further : (before : KeyTexts) (first : Key) (keys : List Key) (k : Key) (o : Outcome Trie) (met : Met)
     → TellsStop (before ++ first.text ∷ []) keys k o met → TellsStop before (first ∷ keys) k o met
 told_further before first keys k o mets.Memory told = tt
@@ -103,8 +97,10 @@ module _ {gives : Child → Type 0} (before : Table) (k : List ℕ) (new : List 
   step_told g front keys last met told =
       let entries = ap (below (steps.key k)) (table_entries_trie before) in
       let is = entries ∙ (at_entered child_trie k (out-Table before).entries new p e there stands).0 in
-      told_on front keys last _ _ met (λ x stop. path_here (steps.key k ∷ []) g (λ t. stops x) (table_trie before)
-      (ap g is ∙ stop) ∙ path_stop (steps.key k ∷ []) x (table_trie before)) told
+      let on : (x : Stop) → g stood ≡ stops x → try_step (steps.key k) g (table_trie before) ≡ stops x = λ x stop.
+      path_here (steps.key k ∷ []) g (λ t. stops x) (table_trie before) (ap g is ∙ stop)
+      ∙ path_stop (steps.key k ∷ []) x (table_trie before) in
+      grind (arith, on)
 
   pub last_told : (met : Met) (d : Data) → TellsLast stood met → TellsRow [] k d (table_trie before) met
   last_told met d told = λ front offset.
@@ -154,8 +150,7 @@ dotted_before is_new t fresh = grind arith
 pub extended_before : (is_new : Bool) (ks : List Key) (last : List ℕ) (d : Data) (t : Trie) (met : Met)
     → (is_new ≡ true → t ≡ empty_table) → TellsExtended ks last d t met
     → TellsExtended ks last d (trie_before is_new t) met
-extended_before true ks last d t met fresh told =
-    rw (fresh refl) at told
+extended_before true ks last d t met fresh told = rw (fresh refl) at told
 extended_before false ks last d t met fresh told = told
 
 pub dotted_table : (c : Child) (t : Box Table Global) (e : Table) → (out-Child c).item ≡ items.Table t → e ≡ t.value
@@ -179,5 +174,5 @@ other_refuses c no_table = ap (mark_here dotted) (child_item_trie c) ∙ go (ite
     i = (out-Child c).item
 
     go : (x : Item-F items.Item Child Table) → items.out-Item i ≡ x → mark_here dotted (item_trie i) ≡ None
-    go (Item-F.Table t) e = absurd (no_table t (shape i (Item-F.Table t) e ∙ search (rules, the_lemmas)))
-    go x e = ap (λ i. mark_here dotted (item_trie i)) (shape i x e) ∙ search (rules, the_lemmas)
+    go (Item-F.Table t) e = absurd (no_table t (shape i (Item-F.Table t) e ∙ search (rules, items.the_lemmas)))
+    go x e = ap (λ i. mark_here dotted (item_trie i)) (shape i x e) ∙ search (rules, items.the_lemmas)

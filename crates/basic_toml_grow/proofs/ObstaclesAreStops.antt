@@ -107,38 +107,35 @@ module _ (rows : Rows) where
 
   module _ {f : ℕ → Trie → Option Obstacle} {g : Trie → Outcome Trie} (h : Trie → ℕ) (on : TellsOn f g h) where
     -- a mark and a step before it: the mark changes nothing below
-    step_tells : (k : MarkKind) (name : Option Standing → Stop) (s : Step) (l m : ℕ) (t : Trie)
-        → l + suc (h (below s t)) ≡ m
-        → Tells (option_or (above l) (and_behind (try_here k name t) (λ u. f (l + 1) (below s u))))
-        (and_on (try_here k name t) (λ u. try_step s g u)) (highest m rows)
-    step_tells k name s l m (trie st v ts) same =
+    step_tells : (k : MarkKind) (left : ℕ) (s : Step) (l m : ℕ) (t : Trie) → l + suc (h (below s t)) ≡ m
+        → Tells (option_or (above l) (and_behind (try_here k (header_stop k left) t) (λ u. f (l + 1) (below s u))))
+        (and_on (try_here k (header_stop k left) t) (λ u. try_step s g u)) (highest m rows)
+    step_tells k left s l m (trie st v ts) same =
         let top : max l (highest m rows) ≡ highest m rows = omega arith in
         rw (← top) (level_tells l (elim (cases_Bool (fits k st)) [
           | inl is ↦ rw is (map_tells (λ ts. trie (Some (taken k st)) (option_or v (value_of k)) ts)
               (among_tells s g ts (on (l + 1) m (find s ts) (omega arith))))
-          | inr other ↦ rw other (stop_met (name st))
+          | inr other ↦ rw other (stop_met (header_stop k left st))
         ]))
 
     -- into the latest of so many elements
     on_tells : (left n l m : ℕ) (t : Trie) → l + steps_on h n t ≡ m
         → Tells (obstacle_on f left l n t) (try_go_on g left n t) (highest m rows)
     on_tells left zero l m t same = on l m t same
-    on_tells left (suc n) l m t same = step_tells by_latest (header_stop by_latest left) (number n) l m t same
+    on_tells left (suc n) l m t same = step_tells by_latest left (number n) l m t same
 
   -- on by the keys of a header
   keys_tell : (a : Bool) (keys : KeyTexts)
       → TellsOn (λ l t. keys_obstacle a rows keys l t) (λ t. try_by_keys a rows keys t) (λ t. steps_to a keys t)
   keys_tell a [] l m t same = table_tells l m t same
   keys_tell true (k ∷ []) l m t same =
-      step_tells (λ t. 1) (λ l m t. step_tells _ table_tells added (header_stop added 0) (number (count t)) l m t)
-      passed (header_stop passed 1) (key k) l m t (omega arith)
-  keys_tell false (k ∷ []) l m t same =
-      step_tells _ (λ l m t. on_tells _ table_tells 0 (count t) l m t) passed (header_stop passed 1) (key k) l m t
+      step_tells (λ t. 1) (λ l m t. step_tells _ table_tells added 0 (number (count t)) l m t) passed 1 (key k) l m t
       (omega arith)
+  keys_tell false (k ∷ []) l m t same =
+      step_tells _ (λ l m t. on_tells _ table_tells 0 (count t) l m t) passed 1 (key k) l m t (omega arith)
   keys_tell a (k ∷ j ∷ keys) l m t same =
-      let left = length (j ∷ keys) in
-      step_tells _ (λ l m t. on_tells _ (keys_tell a (j ∷ keys)) left (count t) l m t)
-      passed (header_stop passed (suc left)) (key k) l m t (omega arith)
+      step_tells _ (λ l m t. on_tells _ (keys_tell a (j ∷ keys)) (length (j ∷ keys)) (count t) l m t) passed
+      (length (k ∷ j ∷ keys)) (key k) l m t (omega arith)
 
 -- a stop that is met first stops without levels, and a level is met first only where one is above the limit
 the_stop : {A : Type 0} {o : Outcome A} {x : Stop} {l : ℕ} → Tells (Some (in_the_way x)) o l → o ≡ stops x

@@ -15,7 +15,6 @@ use Rattle.basic_toml_plain.specs.PlainTables.{SectionTable, SectionTables, have
 use Rattle.basic_toml_plain.proofs.SimpleKeys.{few_are_plain, few_are_simple, first_plain, others_plain}
 use Rattle.basic_toml_grow.specs.Takes.{TakesRows}
 use Rattle.basic_toml_grow.specs.Simple.{child_of, entries_of, section_table, with_entries, table_of}
-use Rattle.basic_toml_grow.specs.declared.item.Item.{the_lemmas, Tables}
 use Rattle.basic_toml_grow.specs.declared.item.Item as items
 use Rattle.basic_toml_grow.specs.declared.item.Table.{Table, out-Table}
 use Rattle.basic_toml_grow.specs.Item.{item_trie, child_trie, table_trie}
@@ -53,11 +52,11 @@ bare s = section_table s []
 -- the parts of the table that rows stand for; it takes the rows, and where what stands in it then comes from
 module _ (s : ℕ) (rows : List Row) where
   pub entries_are : (out-Table (section_table s rows)).entries ≡ entries_of s rows
-  entries_are = search (rules, the_lemmas)
+  entries_are = search (rules, items.the_lemmas)
 
   pub section_table_trie : table_trie (section_table s rows)
       ≡ trie (Some (standings.table false true false)) None (by_keys (tries_of child_trie (entries_of s rows)))
-  section_table_trie = table_entries_trie (section_table s rows) ∙ search (rules, the_lemmas)
+  section_table_trie = table_entries_trie (section_table s rows) ∙ search (rules, items.the_lemmas)
 
   pub section_trie : are_few_simple 0 rows ≡ true → item_trie (items.Section rows) ≡ table_trie (section_table s rows)
   section_trie are =
@@ -66,14 +65,14 @@ module _ (s : ℕ) (rows : List Row) where
   pub section_taken : (level : ℕ) → level ≤ nesting_limit → are_few_simple level rows ≡ true
       → TakesRows (rows_seen [] rows) s level (bare s) (section_table s rows) (Ok tt)
   section_taken level low are =
-      let none : (out-Table (bare s)).entries ≡ [] = search (rules, the_lemmas) in
-      let same : with_entries (bare s) (entries_of s rows) ≡ section_table s rows = search (rules, the_lemmas) in
+      let none : (out-Table (bare s)).entries ≡ [] = search (rules, items.the_lemmas) in
+      let same : with_entries (bare s) (entries_of s rows) ≡ section_table s rows = search (rules, items.the_lemmas) in
       rw same at (rows_in s level low (bare s) none rows (few_are_simple level rows are))
 
   pub section_within : are_few_simple 0 rows ≡ true
       → table_within (section_table s rows) ≡ within true s (rows_origins s (rows_seen [] rows))
   section_within are =
-      let none : table_within (bare s) ≡ within true s (at_keys []) = search (rules, the_lemmas) in
+      let none : table_within (bare s) ≡ within true s (at_keys []) = search (rules, items.the_lemmas) in
       (section_taken 0 (omega arith) are).origins ∙ rw (none, no_keys_below) refl
 
   pub section_origins : are_few_simple 0 rows ≡ true → (at : ℕ)
@@ -103,14 +102,14 @@ module _ {A : Type 0} (f : Table → A) (g : SectionTable → A)
       rw (are.earlier, are.latest) (all_tell b.value.0 parts.0, same b.value.1 (and_parts _ _ parts.1).0)
 
 pub unfolded_trie : {b : Box SectionTables Global} {made : Box (Vec Table Global × Table) Global} → AreMade b made
-    → item_trie (Tables made) ≡ item_trie (items.Sections b)
+    → item_trie (items.Tables made) ≡ item_trie (items.Sections b)
 unfolded_trie {b} {made} are =
     let all = made_tell table_trie (λ t. rows_trie t.1)
     (λ t few. sym (section_trie t.0 t.1 few) ∙ section_item_trie t.1) b made are in
     rw (tables_trie made, sections_trie b, all.0, all.1) refl
 
 pub unfolded_origins : {b : Box SectionTables Global} {made : Box (Vec Table Global × Table) Global} → AreMade b made
-    → (at s : ℕ) → item_origins (Tables made) at s ≡ item_origins (items.Sections b) at s
+    → (at s : ℕ) → item_origins (items.Tables made) at s ≡ item_origins (items.Sections b) at s
 unfolded_origins {b} {made} are at s =
     let number = made_tell (λ t. (table_within t).section) (λ t. t.0)
     (λ t few. ap (λ w. w.section) (section_within t.0 t.1 few)) b made are in

@@ -9,7 +9,6 @@ use Rattle.std.proofs.lemmas.Bool.{and_parts, cases_Bool}
 use Rattle.std.proofs.lemmas.Simd.{map-map}
 use Rattle.std.proofs.lemmas.List.{length-map, map_push}
 use Rattle.basic_toml_grammar.specs.Steps.{Step, key, Path, begins, number, step_eq}
-use Rattle.basic_toml_grow.specs.declared.item.Item.{the_lemmas, Tables}
 use Rattle.basic_toml_grow.specs.declared.item.Item as items
 use Rattle.basic_toml_grow.specs.declared.item.Child.{Child, out-Child}
 use Rattle.basic_toml_grow.specs.declared.item.Table.{Table}
@@ -24,7 +23,7 @@ use Rattle.basic_toml_grow.proofs.Origins.OriginsSeen.{table_origins, fresh_with
 -- a child with another item
 pub holding_origins : (c : Child) (i : items.Item)
     → child_origins (holding c i) ≡ item_origins i (out-Child c).start (out-Child c).section
-holding_origins c i = search (rules, the_lemmas)
+holding_origins c i = search (rules, items.the_lemmas)
 
 -- what is not on the way comes from where it came before, also where an item is new
 abbrev pub Keeps : Path → Origins → Origins → Type 0
@@ -102,7 +101,7 @@ elements_of at s ts = map (λ t. of_table at s (table_within t)) ts
 pub as_many : (at s : ℕ) (ts : List Table) → length (map table_trie ts) ≡ length (elements_of at s ts)
 as_many at s ts = length-map ts table_trie ∙ sym (length-map ts (λ t. of_table at s (table_within t)))
 
-pub array_below : (b : Box (Vec Table Global × Table) Global) (at s : ℕ) → item_origins (Tables b) at s
+pub array_below : (b : Box (Vec Table Global × Table) Global) (at s : ℕ) → item_origins (items.Tables b) at s
     ≡ entry (array_origin at (table_within b.value.1).section)
     (at_numbers (elements_of at s b.value.0.items ++ of_table at s (table_within b.value.1) ∷ []))
 array_below b at s = rw (tables_seen b at s, map_push, map-map) refl
@@ -111,7 +110,7 @@ array_below b at s = rw (tables_seen b at s, map_push, map-map) refl
 pub latest_grows : (old after : Box (Vec Table Global × Table) Global) (w : Path) (rows : Origins)
     → after.value.0 ≡ old.value.0 → GrowsAlong w rows (table_origins old.value.1) (table_origins after.value.1)
     → (at s : ℕ) → GrowsAlong (number (length (map table_trie old.value.0.items)) ∷ w) rows
-    (item_origins (Tables old) at s) (item_origins (Tables after) at s)
+    (item_origins (items.Tables old) at s) (item_origins (items.Tables after) at s)
 latest_grows old after w rows same grows at s =
     rw (array_below old at s, array_below after at s, same, as_many at s old.value.0.items)
     (last_grows (elements_of at s old.value.0.items) (Some _) _ _ rows w _ (λ r q. refl)
@@ -119,7 +118,7 @@ latest_grows old after w rows same grows at s =
 
 pub latest_marks : (old after : Box (Vec Table Global × Table) Global) (n : ℕ) (w : Path) → after.value.0 ≡ old.value.0
     → MarksTable n w (table_within after.value.1) → (at s : ℕ)
-    → MarksWay n (number (length (map table_trie old.value.0.items)) ∷ w) (item_origins (Tables after) at s)
+    → MarksWay n (number (length (map table_trie old.value.0.items)) ∷ w) (item_origins (items.Tables after) at s)
 latest_marks old after n w same marks at s =
     rw (array_below after at s, same, as_many at s old.value.0.items)
     (numbers_marked n w (elements_of at s old.value.0.items) (of_table at s (table_within after.value.1)) _
@@ -128,8 +127,8 @@ latest_marks old after n w same marks at s =
 -- a table that is added to an array comes from nowhere yet, but for what is on its way
 pub more_keeps : (old after : Box (Vec Table Global × Table) Global) (at s : ℕ)
     → after.value.0.items ≡ old.value.0.items ++ old.value.1 ∷ [] → table_trie after.value.1 ≡ fresh
-    → Keeps (number (length (map table_trie after.value.0.items)) ∷ []) (item_origins (Tables old) at s)
-    (item_origins (Tables after) at s)
+    → Keeps (number (length (map table_trie after.value.0.items)) ∷ []) (item_origins (items.Tables old) at s)
+    (item_origins (items.Tables after) at s)
 more_keeps old after at s tables empty =
     let xs = elements_of at s after.value.0.items in
     let was : elements_of at s old.value.0.items ++ of_table at s (table_within old.value.1) ∷ [] ≡ xs =

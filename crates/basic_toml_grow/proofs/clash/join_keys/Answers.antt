@@ -1,5 +1,6 @@
-use Rattle.std.proofs.Common.{◌≡◌, ◌<◌, ◌+◌, [], ◌∷◌, ◌++◌, refl, rules, ap, arith, length, take}
-use Rattle.std.proofs.lemmas.List.{append_assoc, map_push, take_more, length-take}
+use Rattle.std.proofs.Common.{◌≡◌, ◌<◌, ◌+◌, [], ◌∷◌, ◌++◌, refl, rules, ap, arith, length, take, append_assoc}
+use Rattle.std.proofs.Common.{length-take}
+use Rattle.std.proofs.lemmas.List.{map_push, take_more}
 use Rattle.basic_toml_read.specs.SectionView.{header_texts}
 use Rattle.basic_toml_grow.proofs.HeadersNamed.{joined_more, texts_count}
 use Rattle.basic_toml_grow.proofs.clash.join_keys.Goals as goal

@@ -1,4 +1,6 @@
-use Rattle.std.proofs.Common.{◌≡◌, ℕ, ◌+◌, [], true, refl, ap, ◌∙◌, arith, rules}
+use Rattle.std.proofs.Common.{◌≡◌, ℕ, ◌+◌, [], true, refl, ap, sym, ◌∙◌, arith, rules}
+use Rattle.std.proofs.lemmas.Result.{err_from_is_err_and}
+use Rattle.basic_toml_grow.proofs.ItemTries.{child_item_trie}
 use denote.Hole.Carrier.{out}
 use Rattle.std.specs.Box as boxes
 use Rattle.basic_toml_read.specs.declared.section.Raw as raws
@@ -10,7 +12,7 @@ use Rattle.basic_toml_plain.proofs.WhatIsLeft.{nothing_left}
 use Rattle.basic_toml_grow.specs.declared.item.Item as items
 use Rattle.basic_toml_grow.specs.declared.item.Item.TheViews.{out-Item}
 use Rattle.basic_toml_grow.specs.Headers.{IsNew, is_last}
-use Rattle.basic_toml_grow.proofs.HeadersGoOn.{Leads, from_deep_value, from_item, from_key, from_latest, from_none}
+use Rattle.basic_toml_grow.proofs.HeadersGoOn.{Leads, from_deep_value, from_item, from_key, from_latest}
 use Rattle.basic_toml_grow.proofs.HeadersGoOn.{from_table, from_value, lead, lead_more, no_new_section, not_last}
 use Rattle.basic_toml_grow.proofs.HeadersEntered.{out_holding}
 use Rattle.basic_toml_grow.specs.declared.item.Child.{out-Child}
@@ -52,9 +54,15 @@ enter_at-returns-clause-takes t c =
 pub enter_at-returns-in_err-add_table-clause-takes : goal.enter_at-returns-in_err-add_table-clause-takes
 enter_at-returns-in_err-add_table-clause-takes t c =
     let none = nothing_left c.args.rest.now (grind (arith, c.is_empty.ensures, c.if-is_empty.true)) in
-    rw (c.if-is_array.true, none, c.if-not-is_new.true)
-    (from_none c.unfold.new.self c.in_err-add_table.field-0.0 c.in_ok-unfold.ensures.trie c.in_err-add_table.ensures.out
-    c.in_err-add_table.ensures.named c.from_residual-in_err-add_table.ensures.1)
+    let clash = err_from_is_err_and c.from_residual-in_err-add_table.result
+    c.from_residual-in_err-add_table.ensures.1 in
+    let trie = sym c.in_ok-unfold.ensures.trie ∙ child_item_trie c.unfold.new.self in
+    rw (c.if-is_array.true, none, c.if-not-is_new.true, clash.1, clash.2) (record {
+      entered = rw trie (c.in_err-add_table.ensures.out _);
+      named = rw trie (c.in_err-add_table.ensures.named _);
+      origins = tt;
+      marks = tt;
+    })
 
 -- by a header's last key, where rows can stay as they were read
 stay_last : (t : ℕ) (c : enter_last-In_ok-kept t) → CanStay c.args.rows.now (c.args.level + 1)
