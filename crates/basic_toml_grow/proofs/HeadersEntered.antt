@@ -1,5 +1,5 @@
 -- The way of a header through tables and what stands in them, as contracts say it.
-use Rattle.std.proofs.Common.{◌≡◌, false, refl, ap, sym, ◌∙◌, rules, Vec, Box, Global, subst}
+use Rattle.std.proofs.Common.{◌≡◌, false, refl, ap, ◌∙◌, rules, Vec, Box, Global}
 use Rattle.basic_toml_value.specs.Data.{Data}
 use Rattle.basic_toml_plain.specs.Tries.{tree_data, leaf}
 use Rattle.basic_toml_grow.specs.declared.item.Item as items
@@ -21,8 +21,7 @@ other_is_leaf i no_section no_table no_tables = (tree_data (item_trie i), go (ou
     go (Item-F.Tables b) e = absurd (no_tables b (shape i (Item-F.Tables b) e ∙ search (rules, items.the_lemmas)))
     go (Item-F.Section rows) e = absurd (cc (no_section, ap holds_section e))
     go (Item-F.Sections b) e = absurd (cc (no_section, ap holds_section e))
-    go x e =
-        subst (λ j. item_trie j ≡ leaf (tree_data (item_trie j))) (sym (shape i x e)) (search (rules, items.the_lemmas))
+    go x e = rw (shape i x e) (search (rules, items.the_lemmas))
 
 -- a child with another item
 abbrev pub holding : Child → items.Item → Child

@@ -7,7 +7,7 @@ use Rattle.std.proofs.Common.{◌≡◌, ◌≤◌, ◌<◌, ℕ, suc, ◌+◌, 
 use Rattle.std.proofs.Common.{sym, ◌∙◌, arith, inr, Vec, Box, Global, Result, Err, rules, slice_get, bytes_eq}
 use Rattle.std.proofs.Common.{option_map, ◌||◌}
 use Rattle.std.proofs.lemmas.Result.{IfOk-weaker}
-use Rattle.std.proofs.lemmas.List.{map-append}
+use Rattle.std.proofs.lemmas.List.{length-map, map-append}
 use Rattle.basic_toml_value.specs.Nesting.{nesting_limit}
 use Rattle.basic_toml_value.specs.Growth.{FindsOrAdds, with_value, values_of}
 use Rattle.basic_toml_value.specs.declared.pairs.growth.Place.{Place}
@@ -34,7 +34,6 @@ use Rattle.basic_toml_grow.specs.Takes.{TakesHeader, TakesHeaderAtKey, TakesHead
 use Rattle.basic_toml_grow.proofs.HeadersInATrie.{array_of, Course, course, course_by, course_barred, course_latest}
 use Rattle.basic_toml_grow.proofs.HeadersInATrie.{deep_met, entered_on, in_latest, in_table, course_at, course_fresh}
 use Rattle.basic_toml_grow.proofs.HeadersInATrie.{course_next, no_last, course_of, course_through, made}
-use Rattle.basic_toml_grow.proofs.HeadersNamed.{texts_count}
 use Rattle.basic_toml_grow.proofs.ItemTries.{child_item_trie, table_entries_trie}
 use Rattle.basic_toml_grow.proofs.TablesOpened.{table_item_trie, tables_trie}
 use Rattle.basic_toml_grow.proofs.HeadersEntered.{holding, holding_trie, other_is_leaf}
@@ -223,7 +222,7 @@ module _ {a : Bool} {rows : Rows} {level n : ℕ} {i : Item} (keys : List code.K
   from_value low =
       let seen = other_is_leaf i no_section no_table no_tables in
       let barred = course_barred a rows (header_texts keys) (level + 1) seen.0 (omega (arith, low)) in
-      let left : suc (length (header_texts keys)) ≡ length keys + 1 = omega (arith, texts_count keys) in record {
+      let left : suc (length (header_texts keys)) ≡ length keys + 1 = simp length-map (omega arith) in record {
         entered = inr (rw seen.1 barred.0);
         named = (at_header (length keys + 1), (refl, rw (seen.1, ← left) barred.1));
         origins = tt;

@@ -1,7 +1,6 @@
 pub mod ValuesOnTheWay
 pub mod CrossedIsFault
 pub mod KeyTreeGrows
-pub mod HeadersNamed
 pub mod ObstaclesPassOn
 pub mod LatestInATrie
 pub mod HeadersInATrie

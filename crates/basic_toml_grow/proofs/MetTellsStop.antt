@@ -33,20 +33,22 @@ use Rattle.basic_toml_grow.proofs.ItemTries.{child_item_trie, table_entries_trie
 use Rattle.basic_toml_grow.proofs.ItemsStand.{shape}
 use Rattle.basic_toml_grow.proofs.TablesOpened.{table_item_trie}
 
+-- some key stops
+key_stops : {before : KeyTexts} {left : ℕ} {o : Outcome Trie} (front : List Key) (k : Key) (rest : List Key)
+    → left ≡ suc (length rest) → o ≡ stops (at_row (before ++ texts front) k)
+    → StopsAtKey before (front ++ k ∷ rest) left o
+key_stops front k rest count stop =
+    record { front = front; there = k; rest = rest; parts = refl; count = count; stop = stop }
+
 -- what is told of a row, told with a key before it
 told_further : (before : KeyTexts) (first : Key) (keys : List Key) (k : Key) (o : Outcome Trie) (met : Met)
     → TellsStop (before ++ first.text ∷ []) keys k o met → TellsStop before (first ∷ keys) k o met
 told_further before first keys k o mets.Memory told = tt
 told_further before first keys k o mets.Row told =
     told ∙ ap (λ b. stops (at_row (take 1 b) k)) (append_assoc before (first.text ∷ []) (texts keys))
-told_further before first keys k o (mets.Header left) told = record {
-  front = first ∷ told.front;
-  there = told.there;
-  rest = told.rest;
-  parts = ap (λ ks. first ∷ ks) told.parts;
-  count = told.count;
-  stop = told.stop ∙ ap (λ b. stops (at_row b told.there)) (append_assoc before (first.text ∷ []) (texts told.front));
-}
+told_further before first keys k o (mets.Header left) told =
+    rw told.parts (key_stops (first ∷ told.front) told.there told.rest told.count
+    (told.stop ∙ ap (λ b. stops (at_row b told.there)) (append_assoc before (first.text ∷ []) (texts told.front))))
 
 -- what headers made stands at the last key
 abbrev pub by_headers : Option standings.Standing → Bool
@@ -54,20 +56,8 @@ by_headers (Some (standings.table p n d)) = p || n
 by_headers (Some (standings.array n)) = true
 by_headers _ = false
 
--- the first key stops
-at_first : {before : KeyTexts} {k : Key} {rest : List Key} {left : ℕ} {o : Outcome Trie} → left ≡ suc (length rest)
-    → o ≡ stops (at_row before k) → StopsAtKey before (k ∷ rest) left o
-at_first {before} {k} {rest} count stop = record {
-  front = [];
-  there = k;
-  rest = rest;
-  parts = refl;
-  count = count;
-  stop = rw append-nil stop;
-}
-
 trie_stands : (t : Trie) → by_headers (standing t) ≡ true → TellsLast t (mets.Header 1)
-trie_stands (trie s v ts) made = λ before k d. at_first refl (grind arith)
+trie_stands (trie s v ts) made = λ before k d. key_stops [] k [] refl (rw (append-nil before) (grind arith))
 
 pub headers_stand : (c : Child) (i : items.Item) → (out-Child c).item ≡ i
     → by_headers (standing (item_trie i)) ≡ true → TellsLast (child_trie c) (mets.Header 1)
@@ -133,8 +123,8 @@ pub extended_refused : {now : Child} (parents : List code_keys.Key) (last : List
 extended_refused parents last child there none = record {
   entered = λ d is_leaf. ap (λ m. and_then m (λ t. put_row (header_texts parents ++ last ∷ []) d t)) none;
   named = λ d is_leaf before first offset. rw (stopped_here before first (child_trie there) none)
-      (at_first (omega (arith, length-append (map key_of parents) (key_at offset last ∷ []),
-      length-map parents key_of)) refl);
+      (key_stops [] first _ (omega (arith, length-append (map key_of parents) (key_at offset last ∷ []),
+      length-map parents key_of)) (rw (append-nil before) refl));
   origins = tt;
 }
 
