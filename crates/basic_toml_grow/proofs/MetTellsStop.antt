@@ -1,7 +1,8 @@
--- What a row meets tells what stops it, key by key.
+-- What a row meets tells what stops it, key by key; and the clash that is answered for a row says what was met, or what
+-- stops its value.
 use Rattle.std.proofs.Common.{rules, ◌≡◌, ℕ, suc, ◌+◌, Bool, true, false, ◌||◌, List, [], ◌∷◌, ◌++◌, refl, ap, ◌∙◌}
 use Rattle.std.proofs.Common.{Option, Some, None, Err, length, take, map, Box, Global, arith, append-nil, append_assoc}
-use Rattle.std.proofs.Common.{length-append, slice_get}
+use Rattle.std.proofs.Common.{length-append, slice_get, ◌-◌}
 use Rattle.std.proofs.lemmas.List.{length-map}
 use Rattle.basic_toml_value.specs.Data.{Data}
 use Rattle.basic_toml_grammar.specs.Sections.{Key, KeyTexts, texts}
@@ -26,12 +27,16 @@ use Rattle.basic_toml_grow.specs.declared.met.Met.TheVariants as mets
 use Rattle.basic_toml_grow.specs.Item.{child_trie, table_trie, item_trie, empty_table, trie_before}
 use Rattle.basic_toml_value.specs.Growth.{values_of, FindsOrAdds}
 use Rattle.basic_toml_value.specs.declared.pairs.growth.Place.{Place}
-use Rattle.basic_toml_grow.specs.RowStops.{key_at, StopsAtKey, TellsStop, TellsLast, TellsRow, TellsExtended}
+use Rattle.basic_toml_grow.specs.RowStops.{key_at, StopsAtKey, TellsStop, TellsLast, TellsRow, TellsExtended, SaysMet}
 use Rattle.basic_toml_grow.specs.Takes.{ExtendsBy}
 use Rattle.basic_toml_grow.proofs.KeysInATrie.{at_entered}
 use Rattle.basic_toml_grow.proofs.ItemTries.{child_item_trie, table_entries_trie}
 use Rattle.basic_toml_grow.proofs.ItemsStand.{shape}
 use Rattle.basic_toml_grow.proofs.TablesOpened.{table_item_trie}
+use Rattle.basic_toml_grow.specs.declared.clash.Clash.{Clash}
+use Rattle.basic_toml_grow.specs.declared.clash.Clash.TheVariants as clashes
+use Rattle.basic_toml_grow.specs.Clash.{IsStop, NamesObstacle}
+use Rattle.basic_toml_grow.specs.Obstacles.{and_behind}
 
 -- some key stops
 key_stops : {before : KeyTexts} {left : ℕ} {o : Outcome Trie} (front : List Key) (k : Key) (rest : List Key)
@@ -166,3 +171,34 @@ other_refuses c no_table = ap (mark_here dotted) (child_item_trie c) ∙ go (ite
     go : (x : Item-F items.Item Child Table) → items.out-Item i ≡ x → mark_here dotted (item_trie i) ≡ None
     go (Item-F.Table t) e = absurd (no_table t (shape i (Item-F.Table t) e ∙ search (rules, items.the_lemmas)))
     go x e = ap (λ i. mark_here dotted (item_trie i)) (shape i x e) ∙ search (rules, items.the_lemmas)
+
+-- a clash that is a stop
+names : (clash : Clash) (x : Stop) (o : Outcome Trie) → IsStop clash x → o ≡ stops x
+    → NamesObstacle (and_behind o (λ _. None)) clash
+names clashes.Memory x o is told = absurd is
+names clashes.Deep x o is told = absurd is
+names _ x o is told = (x, (is, ap (λ (o : Outcome Trie). and_behind o (λ _. None)) told))
+
+-- where keys and one more fall into parts, a key that stands behind the front ones is the next
+parts_there : (parents : List code_keys.Key) (last there : Key) (front rest : List Key) (r : code_keys.Key)
+    → map key_of parents ++ last ∷ [] ≡ front ++ there ∷ rest → slice_get parents (length front) ≡ Some r
+    → (header_texts (take (length front) parents) ≡ texts front) × (key_of r ≡ there)
+parts_there [] last there front rest r parts at = absurd (cc)
+parts_there (k ∷ parents) last there [] rest r parts at = (refl, cc)
+parts_there (k ∷ parents) last there (f ∷ front) rest r parts at =
+    let more = parts_there parents last there front rest r (cc) at in
+    let same : key_of k ≡ f = cc in (rw (← same, more.0) refl, more.1)
+
+module _ (parents : List code_keys.Key) (offset : ℕ) (last : List ℕ) (left number : ℕ)
+    (is_number : number ≡ length parents + 1 - left)
+    (path : KeyTexts) (is_path : path ≡ header_texts (take number parents)) (clash : Clash) where
+  -- the clash names the key at the number
+  pub key_said : (r : code_keys.Key) → slice_get parents number ≡ Some r → IsStop clash (at_row path (key_of r))
+      → SaysMet (map key_of parents) (key_at offset last) (mets.Header left) clash
+  key_said r at said = λ o told.
+      let all = ap length told.parts in
+      let n : number ≡ length told.front = omega (arith, is_number, told.count, all, length-map parents key_of,
+          length-append told.front (told.there ∷ told.rest),
+          length-append (map key_of parents) (key_at offset last ∷ [])) in
+      let next = parts_there parents (key_at offset last) told.there told.front told.rest r told.parts (rw (← n) at) in
+      names clash (at_row path (key_of r)) o said (told.stop ∙ rw (is_path, n, next.0, next.1) refl)
