@@ -170,24 +170,19 @@ value_free l v keyed apart within = go (value_tells l v) (value_goes v keyed apa
     go (level_met over) goes within = absurd (omega arith)
     go (stop_met x) goes within = absurd (cc goes.1)
 
--- what a keyed row comes to does not depend on what stands above it
-row_aside : (k : Key) (ks : List Key) (d : Data) (ts : Tries)
-    → (o : Outcome Tries) × ((u : Option Standing) (w : Option Data)
-    → try_put_row [] (k ∷ ks) d (trie u w ts) ≡ outcome_map (λ ts. trie u w ts) o)
-row_aside k [] d ts = (_, λ u w. refl)
-row_aside k (l ∷ ks) d ts = (_, λ u w. refl)
-
--- nor does what is behind it
-behind_aside : {f g : Tries → Trie} (o : Outcome Tries) (h : Trie → Option Obstacle)
-    → ((ts : Tries) → h (f ts) ≡ h (g ts)) → and_behind (outcome_map f o) h ≡ and_behind (outcome_map g o) h
-behind_aside (stops x) h same = refl
-behind_aside (goes_on ts) h same = same ts
+-- what is behind a keyed row does not depend on what stands above it
+behind_aside : (f g : Tries → Trie) (h : Trie → Option Obstacle) → ((ts : Tries) → h (f ts) ≡ h (g ts))
+    → (o : Outcome Tries) → and_behind (outcome_map f o) h ≡ and_behind (outcome_map g o) h
+behind_aside f g h same (stops x) = refl
+behind_aside f g h same (goes_on ts) = same ts
 
 pub rows_aside : (l : ℕ) (rows : Rows) (s u : Option Standing) (v w : Option Data) (ts : Tries) → rows_keyed rows ≡ true
     → rows_obstacle l rows (trie s v ts) ≡ rows_obstacle l rows (trie u w ts)
 rows_aside l no_rows s u v w ts keyed = refl
 rows_aside l (row [] at v rows) s u a w ts keyed = absurd (cc)
-rows_aside l (row (k ∷ ks) at v rows) s u a w ts keyed =
-    let o = row_aside k ks (finished v) ts in
-    rw (o.1 s a, o.1 u w, behind_aside {f = λ ts. trie s a ts} {g = λ ts. trie u w ts} o.0
-    (λ t. rows_obstacle l rows t) (λ ts. rows_aside l rows s u a w ts keyed)) refl
+rows_aside l (row (k ∷ []) at v rows) s u a w ts keyed =
+    rw (behind_aside (λ ts. trie s a ts) (λ ts. trie u w ts) (λ t. rows_obstacle l rows t)
+    (λ ts. rows_aside l rows s u a w ts keyed)) refl
+rows_aside l (row (k ∷ j ∷ ks) at v rows) s u a w ts keyed =
+    rw (behind_aside (λ ts. trie s a ts) (λ ts. trie u w ts) (λ t. rows_obstacle l rows t)
+    (λ ts. rows_aside l rows s u a w ts keyed)) refl

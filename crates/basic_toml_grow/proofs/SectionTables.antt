@@ -100,9 +100,7 @@ module _ {A : Type 0} (f : Table → A) (g : SectionTable → A)
   all_tell : (ts : List SectionTable) → list_all (λ t. are_few_simple 0 t.1) ts ≡ true
       → map f (map table_of ts) ≡ map g ts
   all_tell [] are = refl
-  all_tell (t ∷ ts) are =
-      let parts = and_parts _ _ are in
-      rw (same t parts.0, all_tell ts parts.1) refl
+  all_tell (t ∷ ts) are = let parts = and_parts _ _ are in rw (same t parts.0, all_tell ts parts.1) refl
 
   made_tell : (b : Box SectionTables Global) (made : Box (Vec Table Global × Table) Global) → AreMade b made
       → (map f made.value.0.items ≡ map g b.value.0) × (f made.value.1 ≡ g b.value.1)
