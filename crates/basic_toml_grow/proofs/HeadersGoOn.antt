@@ -117,10 +117,10 @@ from_key {gives} {a} {rows} {k} {level} {n} {new} {p} {t} {there} {now} {r} own 
           with_mapped child_trie new p.position now)
           (entered_on _ (child_trie now) rows with_now r (ap (λ (c : Course). level + c.steps) met) from.entered);
       named = rw (ap (λ (c : Course). c.met) met) from.named;
-      origins = rw way_is (IfOk-weaker r _ _ (λ x grows. λ q not. grows_at t after there now k new p entered stood
-          put (along c.way (rows_origins n rows)) q (λ y same. grows y (rw (same, bytes_eq-same) at not)))
-          from.origins);
-      marks = rw way_is (IfOk-weaker r _ _ (λ x marks. record {
+      origins = rw (ap (λ (c : Course). c.way) met) (IfOk-weaker r _ _ (λ x grows. λ q not.
+          grows_at t after there now k new p entered stood (ap (λ o. o.entries) is)
+          (along c.way (rows_origins n rows)) q (λ y same. grows y (rw (same, bytes_eq-same) at not))) from.origins);
+      marks = rw (ap (λ (c : Course). c.way) met) (IfOk-weaker r _ _ (λ x marks. record {
         made = made_seen after ∙ ap (λ o. o.passed || o.named) is;
         section = section_seen after ∙ ap (λ o. o.section) is;
         below = below marks;
@@ -137,9 +137,6 @@ from_key {gives} {a} {rows} {k} {level} {n} {new} {p} {t} {there} {now} {r} own 
     is : out-Table after ≡ record (out-Table t) { passed = true; section = n; entries = with_value new p.position now }
     is = search (rules, items.the_lemmas)
 
-    put : (out-Table after).entries ≡ with_value new p.position now
-    put = ap (λ o. o.entries) is
-
     stood : slice_get (values_of new) p.position ≡ Some there
     stood = search (rules, items.the_lemmas, stands)
 
@@ -155,23 +152,19 @@ from_key {gives} {a} {rows} {k} {level} {n} {new} {p} {t} {there} {now} {r} own 
         rw (table_entries_trie t, course_through a rows k (header_texts rest) level o.passed o.named o.dotted _)
         (rw (at.1 (λ t. entered_at a rows (header_texts rest) t), at.0, mapped_twice, behind_low level _ within) refl)
 
-    way_is : way a (k ∷ header_texts rest) (table_trie t) ≡ key k ∷ c.way
-    way_is = ap (λ (c : Course). c.way) met
-
     below : MarksWay n c.way (child_origins now) → (s : Step) (q : Path) → begins (s ∷ q) (key k ∷ c.way) ≡ true
         → IsMarked n (table_origins after (s ∷ q))
     below marks (number m) q on = absurd (cc)
     below marks (key l) q on =
         let both = and_parts (bytes_eq l k) (begins q c.way) on in
-        rw ((bytes_eq-Decides l k).0 both.0, stands_now t after there now k new p entered stood put q) (marks q both.1)
+        rw ((bytes_eq-Decides l k).0 both.0, stands_now t after there now k new p entered stood
+        (ap (λ o. o.entries) is) q) (marks q both.1)
 
 -- The item is a table, or an array of tables, whose latest is gone on from.
 module _ {a : Bool} {rows : Rows} {keys : KeyTexts} {level n : ℕ} {r : Result (Unit {0}) Clash} where
-  pub from_table : {held now : Table} (old : Box Table Global) → held ≡ old.value
-      → TakesHeader a rows keys (level + 1) n held now r
+  pub from_table : {now : Table} (old : Box Table Global) → TakesHeader a rows keys (level + 1) n old.value now r
       → TakesHeaderInItem a rows keys level n (items.Table old) (items.Table (boxes.with_value old now)) r
-  from_table {held} {now} old same takes =
-      let from = rw same at takes in
+  from_table {now} old from =
       let after = boxes.with_value old now in
       let met : course_by a rows keys (level + 1) (item_trie (items.Table old))
       ≡ in_table (course a rows keys (level + 1) (table_trie old.value)) =
@@ -190,13 +183,11 @@ module _ {a : Bool} {rows : Rows} {keys : KeyTexts} {level n : ℕ} {r : Result 
             (table_marked n _ (table_within now) at s marks)) from.marks);
       }
 
-  pub from_latest : {held : Vec Table Global × Table} {now : Table} (old : Box (Vec Table Global × Table) Global)
-      → held ≡ old.value → TakesHeader a rows keys (level + 2) n held.1 now r
-      → TakesHeaderInItem a rows keys level n (items.Tables old) (items.Tables (boxes.with_value old (held.0, now))) r
-  from_latest {held} {now} old is takes =
-      let from = rw is at takes in
-      let after = boxes.with_value old (held.0, now) in
-      let same = ap (λ (ts : Vec Table Global × Table). ts.0) is in
+  pub from_latest : {now : Table} (old : Box (Vec Table Global × Table) Global)
+      → TakesHeader a rows keys (level + 2) n old.value.1 now r → TakesHeaderInItem a rows keys level n
+      (items.Tables old) (items.Tables (boxes.with_value old (old.value.0, now))) r
+  from_latest {now} old from =
+      let after = boxes.with_value old (old.value.0, now) in
       let before = map table_trie old.value.0.items in
       let t = table_trie old.value.1 in
       let met : course_by a rows keys (level + 1) (item_trie (items.Tables old))
@@ -204,13 +195,13 @@ module _ {a : Bool} {rows : Rows} {keys : KeyTexts} {level n : ℕ} {r : Result 
       ap (course_by a rows keys (level + 1)) (tables_trie old)
       ∙ course_latest a rows keys (level + 1) (level + 2) before t (omega arith) in
       let way_is = ap (λ (c : Course). c.way) met in record {
-        entered = rw (ap (λ (c : Course). c.entered) met, tables_trie after, same) (entered_on (walk a rows keys t)
+        entered = rw (ap (λ (c : Course). c.entered) met, tables_trie after) (entered_on (walk a rows keys t)
             (table_trie now) rows (λ u. array_of before u) r (ap (λ (c : Course). level + c.steps) met ∙ omega arith)
             from.entered);
         named = rw (ap (λ (c : Course). c.met) met) from.named;
         origins = rw way_is (IfOk-weaker r _ _
-            (λ x grows. latest_grows old after _ (rows_origins n rows) same grows) from.origins);
-        marks = rw way_is (IfOk-weaker r _ _ (λ x marks. latest_marks old after n _ same marks) from.marks);
+            (λ x grows. latest_grows old after _ (rows_origins n rows) refl grows) from.origins);
+        marks = rw way_is (IfOk-weaker r _ _ (λ x marks. latest_marks old after n _ refl marks) from.marks);
       }
 
 -- A value stands there, which bars a header.

@@ -148,16 +148,16 @@ enter_below-returns-clause-takes t c =
 pub enter_item-returns-in-Table-clause-takes : goal.enter_item-returns-in-Table-clause-takes
 unfolding out-Item out
 enter_item-returns-in-Table-clause-takes t c =
-    rw c.in-Table.is (from_table c.in-Table.table (c.deref_mut.ensures.value ∙ rw c.in-Table.is refl)
-    c.enter_header.ensures.takes)
+    rw c.in-Table.is
+    (from_table c.in-Table.table (rw (c.deref_mut.ensures.value, c.in-Table.is) at c.enter_header.ensures.takes))
 
 -- on from the latest table of an array
 pub enter_item-returns-in-Tables-clause-takes : goal.enter_item-returns-in-Tables-clause-takes
 unfolding out-Item out
 enter_item-returns-in-Tables-clause-takes t c =
-    rw c.in-Tables.is (from_latest c.in-Tables.tables
-    (c.deref_mut-in-Tables.ensures.value ∙ rw c.in-Tables.is (search (rules, items.the_lemmas)))
-    c.enter_header-in-Tables.ensures.takes)
+    let held : c.deref_mut-in-Tables.result.now ≡ c.in-Tables.tables.value =
+    c.deref_mut-in-Tables.ensures.value ∙ rw c.in-Tables.is (search (rules, items.the_lemmas)) in
+    rw (c.in-Tables.is, held) (from_latest c.in-Tables.tables (rw held at c.enter_header-in-Tables.ensures.takes))
 
 -- a value stands there
 pub enter_item-returns-then-level-ge-NESTING_LIMIT-clause-takes :
