@@ -29,7 +29,7 @@ use Rattle.basic_toml_grow.specs.Simple.{with_entries}
 use Rattle.basic_toml_grow.specs.Headers.{IsNew, is_last, HasOneMore, steps_by, entered_at}
 use Rattle.basic_toml_grow.specs.Origins.{child_origins, item_origins, origins_before, rows_origins, table_within}
 use Rattle.basic_toml_grow.specs.Origins.{no_origins, along}
-use Rattle.basic_toml_grow.specs.Ways.{way, way_by, IsMarked, MarksWay}
+use Rattle.basic_toml_grow.specs.Ways.{way, way_by, GrowsAlong, IsMarked, MarksWay}
 use Rattle.basic_toml_grow.specs.Takes.{TakesHeader, TakesHeaderAtKey, TakesHeaderInItem}
 use Rattle.basic_toml_grow.proofs.HeadersInATrie.{array_of, Course, course, course_by, course_barred, course_latest}
 use Rattle.basic_toml_grow.proofs.HeadersInATrie.{deep_met, entered_on, in_latest, in_table, course_at, course_fresh}
@@ -41,9 +41,9 @@ use Rattle.basic_toml_grow.proofs.KeysInATrie.{tries_of, at_entered, with_mapped
 use Rattle.basic_toml_grow.proofs.LatestInATrie.{mapped_twice}
 use Rattle.basic_toml_grow.proofs.ObstaclesPassOn.{behind_low}
 use Rattle.basic_toml_grow.proofs.Origins.OriginsSeen.{child_seen, table_item_seen, table_origins, fresh_within}
-use Rattle.basic_toml_grow.proofs.Origins.OriginsSeen.{grows_at, made_seen, section_seen, stands_now}
-use Rattle.basic_toml_grow.proofs.Origins.HeadersPlaceOrigins.{entry_keeps, holding_origins, Keeps, latest_grows}
-use Rattle.basic_toml_grow.proofs.Origins.HeadersPlaceOrigins.{latest_marks, table_marked, array_below, element_keeps}
+use Rattle.basic_toml_grow.proofs.Origins.OriginsSeen.{grows_at, made_seen, section_seen, stands_now, or_none}
+use Rattle.basic_toml_grow.proofs.Origins.HeadersPlaceOrigins.{entry_keeps, holding_origins, along_none, latest_grows}
+use Rattle.basic_toml_grow.proofs.Origins.HeadersPlaceOrigins.{latest_marks, table_marked, array_below, element_grows}
 use Rattle.basic_toml_grow.proofs.Origins.HeadersPlaceOrigins.{none_below, more_keeps}
 use Rattle.basic_toml_index.proofs.DistinctKeys.{bytes_eq-same}
 use Rattle.std.proofs.lemmas.Bool.{and_parts}
@@ -55,27 +55,30 @@ use Rattle.basic_toml_grow.specs.declared.item.Item.TheViews.{roll-Table}
 abbrev pub Leads : Bool → Rows → KeyTexts → ℕ → Bool → Item → Item → Type 0
 Leads a rows keys l is_new old now =
     (course_at a rows keys l (trie_before is_new (item_trie old)) ≡ course_by a rows keys l (item_trie now))
-    × ((at s : ℕ) → Keeps (way_by a keys (item_trie now)) (origins_before is_new (item_origins old at s))
-    (item_origins now at s))
+    × ((at s : ℕ) → GrowsAlong (way_by a keys (item_trie now)) no_origins
+    (origins_before is_new (item_origins old at s)) (item_origins now at s))
 
 -- so from itself, which is new or not, and from one with one table more
 pub lead : (a : Bool) (rows : Rows) (keys : KeyTexts) (l : ℕ) (is_new : Bool) (i : Item)
     → (is_new ≡ true → IsNew (is_last a keys) i) → (is_new ≡ false → is_last a keys ≡ false)
     → Leads a rows keys l is_new i i
-lead a rows keys l false i new not = (no_last a rows keys l (item_trie i) (not refl), λ at s p aside. refl)
+lead a rows keys l false i new not = (
+  no_last a rows keys l (item_trie i) (not refl),
+  λ at s p aside. rw (along_none (way_by a keys (item_trie i)) p) (sym (or_none _)),
+)
 lead true rows [] l true i new not =
     let array = new refl in (
       rw (array.is, tables_trie array.array, array.none, array.empty) refl,
       λ at s. rw (array.is, tables_trie array.array, ap (map table_trie) array.none)
           (rw (array_below array.array at s, array.none, fresh_within array.array.value.1 array.empty)
-          (element_keeps [] no_origins _ _ (λ s p. sym (none_below s p)))),
+          (element_grows [] no_origins no_origins _ _ (λ s p. sym (none_below s p)))),
     )
 lead a rows keys l true i new not =
     let table = new refl in (
       rw (table.is, table_item_trie table.table, table.empty)
           (no_last a rows keys l nothing refl ∙ sym (ap in_table (course_fresh a rows keys l))),
       λ at s. rw (table.is, table_item_seen table.table at s, fresh_within table.table.value table.empty)
-          (entry_keeps _ no_origins no_origins _ (λ s p not. refl)),
+          (entry_keeps _ _ no_origins _ (λ s p not. sym (along_none _ (s ∷ p)))),
     )
 
 pub lead_more : (rows : Rows) (l : ℕ) {old now : Item} → HasOneMore old now → Leads true rows [] l false old now
@@ -246,6 +249,7 @@ from_item {a} {rows} {keys} {level} {n} {is_new} {old} {there} mid {item} {now} 
           (rw (ap (λ (c : Course). c.entered) on.0, ap (λ (c : Course). c.steps) on.0) takes.entered);
       named = rw (← same, child_item_trie mid, ap (λ (c : Course). c.met) on.0) takes.named;
       origins = rw (now_is, ← same, child_item_trie mid, way_is, ← came, child_seen mid)
-          (IfOk-weaker r _ _ (λ x grows. λ p not. grows at s p not ∙ rw (on.1 at s p not) refl) takes.origins);
+          (IfOk-weaker r _ _ (λ x grows. λ p not. grows at s p not
+          ∙ rw (on.1 at s p not, along_none (way_by a keys (item_trie item)) p, or_none) refl) takes.origins);
       marks = rw (now_is, ← same, child_item_trie mid, way_is) (IfOk-weaker r _ _ (λ x marks. marks at s) takes.marks);
     }

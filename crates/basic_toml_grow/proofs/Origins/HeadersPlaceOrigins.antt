@@ -8,13 +8,13 @@ use Prim.Native.Nat.compare
 use Rattle.std.proofs.lemmas.Bool.{and_parts, cases_Bool}
 use Rattle.std.proofs.lemmas.Simd.{map-map}
 use Rattle.std.proofs.lemmas.List.{length-map, map_push}
-use Rattle.basic_toml_grammar.specs.Steps.{Step, key, Path, begins, number, step_eq}
+use Rattle.basic_toml_grammar.specs.Steps.{Step, key, Path, begins, number}
 use Rattle.basic_toml_grow.specs.declared.item.Item as items
 use Rattle.basic_toml_grow.specs.declared.item.Child.{Child, out-Child}
 use Rattle.basic_toml_grow.specs.declared.item.Table.{Table}
 use Rattle.basic_toml_grow.specs.Item.{table_trie}
 use Rattle.basic_toml_grow.specs.Origins.{Origin, Origins, child_origins, entry, item_origins, table_within, no_origins}
-use Rattle.basic_toml_grow.specs.Origins.{under, at_numbers, array_origin, Within, of_table}
+use Rattle.basic_toml_grow.specs.Origins.{along, under, at_numbers, array_origin, Within, of_table}
 use Rattle.basic_toml_grow.specs.Ways.{GrowsAlong, IsMarked, MarksWay, MarksTable}
 use Rattle.basic_toml_grow.proofs.HeadersInATrie.{fresh}
 use Rattle.basic_toml_grow.proofs.HeadersEntered.{holding}
@@ -26,13 +26,17 @@ pub holding_origins : (c : Child) (i : items.Item)
 holding_origins c i = search (rules, items.the_lemmas)
 
 -- what is not on the way comes from where it came before, also where an item is new
-abbrev pub Keeps : Path → Origins → Origins → Type 0
-Keeps w before now = (p : Path) → begins p w ≡ false → now p ≡ before p
-
 pub entry_keeps : (w : Path) (before now : Origins) (o : Origin)
-    → ((s : Step) (p : Path) → begins (s ∷ p) w ≡ false → now (s ∷ p) ≡ before (s ∷ p)) → Keeps w before (entry o now)
+    → ((s : Step) (p : Path) → begins (s ∷ p) w ≡ false → now (s ∷ p) ≡ before (s ∷ p))
+    → (p : Path) → begins p w ≡ false → entry o now p ≡ before p
 entry_keeps w before now o keeps [] not = absurd (cc)
 entry_keeps w before now o keeps (s ∷ p) not = keeps s p not
+
+-- and there no origins come
+pub along_none : (w p : Path) → along w no_origins p ≡ None
+along_none [] p = refl
+along_none (s ∷ w) [] = refl
+along_none (s ∷ w) (r ∷ p) = rw (along_none w p) (grind arith)
 
 -- a table that stands at a key
 pub table_marked : (n : ℕ) (w : Path) (t : Within) (at s : ℕ) → MarksTable n w t → MarksWay n w (of_table at s t)
@@ -69,17 +73,6 @@ element_grows xs rows before o q same =
     last_grows xs None (entry o rows) before rows [] q
     (λ s p. same s p ∙ ap (λ os. at_numbers os (s ∷ p)) (sym (append-nil xs)))
     (entry_keeps [] _ rows o (λ s p not. refl))
-
--- from which nothing comes yet
-pub element_keeps : (xs : List Origins) (before : Origins) (o q : Origin)
-    → ((s : Step) (p : Path) → before (s ∷ p) ≡ at_numbers xs (s ∷ p))
-    → Keeps (number (length xs) ∷ []) before (entry q (at_numbers (xs ++ entry o no_origins ∷ [])))
-element_keeps xs before o q same [] not = absurd (cc)
-element_keeps xs before o q same (s ∷ p) not =
-    element_grows xs no_origins before o q same (s ∷ p) not ∙ elim (cases_Bool (step_eq s (number (length xs)))) [
-      | inl is ↦ rw is (or_none _)
-      | inr is ↦ rw is (or_none _)
-    ]
 
 pub none_below : (s : Step) (p : Path) → at_numbers [] (s ∷ p) ≡ None
 none_below (key k) p = refl
@@ -127,11 +120,11 @@ latest_marks old after n w same marks at s =
 -- a table that is added to an array comes from nowhere yet, but for what is on its way
 pub more_keeps : (old after : Box (Vec Table Global × Table) Global) (at s : ℕ)
     → after.value.0.items ≡ old.value.0.items ++ old.value.1 ∷ [] → table_trie after.value.1 ≡ fresh
-    → Keeps (number (length (map table_trie after.value.0.items)) ∷ []) (item_origins (items.Tables old) at s)
-    (item_origins (items.Tables after) at s)
+    → GrowsAlong (number (length (map table_trie after.value.0.items)) ∷ []) no_origins
+    (item_origins (items.Tables old) at s) (item_origins (items.Tables after) at s)
 more_keeps old after at s tables empty =
     let xs = elements_of at s after.value.0.items in
     let was : elements_of at s old.value.0.items ++ of_table at s (table_within old.value.1) ∷ [] ≡ xs =
     sym (rw (tables, map_push) refl) in
     rw (array_below old at s, array_below after at s, was, fresh_within after.value.1 empty)
-    (rw (as_many at s after.value.0.items) (element_keeps xs (entry _ (at_numbers xs)) _ _ (λ s p. refl)))
+    (rw (as_many at s after.value.0.items) (element_grows xs no_origins (entry _ (at_numbers xs)) _ _ (λ s p. refl)))
