@@ -116,9 +116,9 @@ pub from_key : {gives : Child → Type 0} {a : Bool} {rows : Rows} {k : List ℕ
     (with_entries (passed_table t new n) (with_value (out-Table (passed_table t new n)).entries p.position now)) r
 from_key {gives} {a} {rows} {k} {level} {n} {new} {p} {t} {there} {now} {r} own rest text within entered stands from =
     rw (← text) (record {
-      entered = rw (ap (λ (c : Course). c.entered) met, table_entries_trie after, is,
-          with_mapped child_trie new p.position now)
-          (entered_on _ (child_trie now) rows with_now r (ap (λ (c : Course). level + c.steps) met) from.entered);
+      entered = rw (ap (λ (c : Course). c.entered) met, table_entries_trie after, is)
+          (rw (with_mapped child_trie new p.position now) (entered_on _ (child_trie now) rows with_now r
+          (ap (λ (c : Course). level + c.steps) met) from.entered));
       named = rw (ap (λ (c : Course). c.met) met) from.named;
       origins = rw (ap (λ (c : Course). c.way) met) (IfOk-weaker r _ _ (λ x grows. λ q not.
           grows_at t after there now k new p entered stood (ap (λ o. o.entries) is)
@@ -160,8 +160,8 @@ from_key {gives} {a} {rows} {k} {level} {n} {new} {p} {t} {there} {now} {r} own 
     below marks (number m) q on = absurd (cc)
     below marks (key l) q on =
         let both = and_parts (bytes_eq l k) (begins q c.way) on in
-        rw ((bytes_eq-Decides l k).0 both.0, stands_now t after there now k new p entered stood
-        (ap (λ o. o.entries) is) q) (marks q both.1)
+        rw ((bytes_eq-Decides l k).0 both.0)
+        (rw (stands_now t after there now k new p entered stood (ap (λ o. o.entries) is) q) (marks q both.1))
 
 -- The item is a table, or an array of tables, whose latest is gone on from.
 module _ {a : Bool} {rows : Rows} {keys : KeyTexts} {level n : ℕ} {r : Result (Unit {0}) Clash} where

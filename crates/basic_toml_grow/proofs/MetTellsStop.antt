@@ -127,9 +127,10 @@ pub extended_refused : {now : Child} (parents : List code_keys.Key) (last : List
     → ExtendsBy parents last child there now (Err (mets.Header (length parents + 2)))
 extended_refused parents last child there none = record {
   entered = λ d is_leaf. ap (λ m. and_then m (λ t. put_row (header_texts parents ++ last ∷ []) d t)) none;
-  named = λ d is_leaf before first offset. rw (stopped_here before first (child_trie there) none)
-      (key_stops [] first _ (omega (arith, length-append (map key_of parents) (key_at offset last ∷ []),
-      length-map parents key_of)) (rw (append-nil before) refl));
+  named = λ d is_leaf before first offset.
+      let many = length-append (map key_of parents) (key_at offset last ∷ []) in
+      rw (stopped_here before first (child_trie there) none)
+      (key_stops [] first _ (omega (arith, many, length-map parents key_of)) (rw (append-nil before) refl));
   origins = tt;
 }
 
@@ -197,8 +198,9 @@ module _ (parents : List code_keys.Key) (offset : ℕ) (last : List ℕ) (left n
       → SaysMet (map key_of parents) (key_at offset last) (mets.Header left) clash
   key_said r at said = λ o told.
       let all = ap length told.parts in
-      let n : number ≡ length told.front = omega (arith, is_number, told.count, all, length-map parents key_of,
-          length-append told.front (told.there ∷ told.rest),
-          length-append (map key_of parents) (key_at offset last ∷ [])) in
+      let front = length-append told.front (told.there ∷ told.rest) in
+      let seen = length-append (map key_of parents) (key_at offset last ∷ []) in
+      let n : number ≡ length told.front =
+      omega (arith, is_number, told.count, all, front, seen, length-map parents key_of) in
       let next = parts_there parents (key_at offset last) told.there told.front told.rest r told.parts (rw (← n) at) in
       names clash (at_row path (key_of r)) o said (told.stop ∙ rw (is_path, n, next.0, next.1) refl)

@@ -1,4 +1,4 @@
-use Rattle.std.proofs.Common.{◌≡◌, ℕ, ◌+◌, [], true, refl, ap, sym, ◌∙◌, arith, rules}
+use Rattle.std.proofs.Common.{◌≡◌, ℕ, ◌+◌, [], true, false, refl, ap, sym, ◌∙◌, arith, rules}
 use Rattle.std.proofs.lemmas.Result.{err_from_is_err_and}
 use Rattle.basic_toml_grow.proofs.ItemTries.{child_item_trie}
 use denote.Hole.Carrier.{out}
@@ -35,14 +35,17 @@ leads t c =
           let none = nothing_left keys (grind (arith, w.is_empty.ensures, w.if-is_empty.true)) in
           rw (w.if-is_array.true, none, w.if-not-is_new.true, w.there-is)
           (_, (out_holding mid _, lead_more _ _ w.in_ok-add_table.ensures.more))
-      | goal.enter_at-else-is_array w ↦ rw w.there-is (_, (refl, lead _ _ _ _ _ _ new (elim w.else-is_array.branch [
-        | goal.enter_at-else-is_array-via-then-is_array+then-is_empty+else-not-is_new v ↦
-            λ not. absurd (cc (not, v.if-not-is_new.false))
-        | goal.enter_at-else-is_array-via-then-is_array+else-is_empty v ↦
-            λ not. not_last _ keys (grind (arith, v.is_empty.ensures, v.if-is_empty.false))
-        | goal.enter_at-else-is_array-via-else-is_array v ↦
-            λ not. ap (λ b. is_last b (header_texts keys)) v.if-is_array.false
-      ])))
+      | goal.enter_at-else-is_array w ↦
+          let not : c.args.is_new ≡ false → is_last c.args.is_array (header_texts keys) ≡ false =
+          elim w.else-is_array.branch [
+            | goal.enter_at-else-is_array-via-then-is_array+then-is_empty+else-not-is_new v ↦
+                λ not. absurd (cc (not, v.if-not-is_new.false))
+            | goal.enter_at-else-is_array-via-then-is_array+else-is_empty v ↦
+                λ not. not_last _ keys (grind (arith, v.is_empty.ensures, v.if-is_empty.false))
+            | goal.enter_at-else-is_array-via-else-is_array v ↦
+                λ not. ap (λ b. is_last b (header_texts keys)) v.if-is_array.false
+          ] in
+          rw w.there-is (_, (refl, lead _ _ _ _ _ _ new not))
     ]
 
 pub enter_at-returns-clause-takes : goal.enter_at-returns-clause-takes
