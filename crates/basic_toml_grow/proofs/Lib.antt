@@ -11,14 +11,11 @@ pub mod TablesOpened
 pub mod HeadersEntered
 pub mod RowsEntered
 pub mod MetTellsStop
-pub mod NoObstacles
 pub mod RowValues
 pub mod Origins
 pub mod HeadersGoOn
 pub mod ObstaclesAreStops
-pub mod ClashSaysMet
 pub mod ValuesMade
 pub mod SimpleRows
 pub mod SectionTables
-pub mod SectionsEntered
 pub mod RowsKept

@@ -27,7 +27,7 @@ use Rattle.basic_toml_grow.specs.Origins.{table_within, value_origins, with_more
 use Rattle.basic_toml_grow.specs.Rows.{EntersRows, met_reason, reason}
 use Rattle.basic_toml_grow.specs.RowStops.{SaysMet, SaysHeld}
 use Rattle.basic_toml_grow.specs.Takes.{MakesChild, TakesRow, TakesRows}
-use Rattle.basic_toml_grow.proofs.NoObstacles.{row_behind, value_free}
+use Rattle.basic_toml_grow.proofs.ObstaclesAreStops.{row_behind, value_free}
 use Rattle.basic_toml_grow.proofs.ObstaclesPassOn.{passed_on, behind_low}
 use Rattle.basic_toml_grow.proofs.Origins.RowsPlaceOrigins.{within}
 

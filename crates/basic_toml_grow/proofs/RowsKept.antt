@@ -17,8 +17,8 @@ use Rattle.basic_toml_grow.specs.declared.item.Child.{Child, out-Child}
 use Rattle.basic_toml_grow.specs.Item.{child_trie, item_trie}
 use Rattle.basic_toml_grow.specs.Origins.{at_numbers, child_origins, item_origins, no_origins, section_origins}
 use Rattle.basic_toml_grow.specs.Takes.{TakesHeaderAtKey}
-use Rattle.basic_toml_grow.proofs.SectionsEntered.{section_entered, section_grows, section_marks, seen, added_grows}
-use Rattle.basic_toml_grow.proofs.SectionsEntered.{added_in, added_marks, tries}
+use Rattle.basic_toml_grow.proofs.SectionTables.{section_entered, section_grows, section_marks, seen, added_grows}
+use Rattle.basic_toml_grow.proofs.SectionTables.{added_in, added_marks, tries}
 use Rattle.basic_toml_grow.proofs.HeadersEntered.{holding, holding_trie}
 use Rattle.basic_toml_grow.proofs.HeadersInATrie.{enter_latest, fresh, put_next}
 use Rattle.basic_toml_grow.proofs.ItemTries.{child_item_trie}

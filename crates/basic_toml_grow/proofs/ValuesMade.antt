@@ -26,7 +26,7 @@ use Rattle.basic_toml_grow.specs.Obstacles.{elements_obstacle, rows_obstacle}
 use Rattle.basic_toml_grow.specs.Origins.{child_origins, elements_origins, dotted_of, item_origins, table_origin}
 use Rattle.basic_toml_grow.specs.Rows.{AreFinished}
 use Rattle.basic_toml_grow.specs.Takes.{MakesChild, TakesRows}
-use Rattle.basic_toml_grow.proofs.NoObstacles.{value_free, rows_aside}
+use Rattle.basic_toml_grow.proofs.ObstaclesAreStops.{value_free, rows_aside}
 use Rattle.basic_toml_grow.proofs.ObstaclesPassOn.{behind_low}
 use Rattle.basic_toml_grow.proofs.Origins.OriginsSeen.{inline_seen, fresh_within, table_origins}
 

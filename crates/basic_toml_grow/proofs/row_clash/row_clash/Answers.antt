@@ -1,7 +1,7 @@
 use Rattle.std.proofs.Common.{refl, length}
 use Rattle.std.proofs.lemmas.Result.{IfOk-weaker}
 use Rattle.std.proofs.lemmas.Option.{slice_get_read}
-use Rattle.basic_toml_grow.proofs.ClashSaysMet.{key_said}
+use Rattle.basic_toml_grow.proofs.MetTellsStop.{key_said}
 use Rattle.basic_toml_grow.proofs.row_clash.row_clash.Goals as goal
 
 pub returns-in-Some-clause-named : goal.returns-in-Some-clause-named
