@@ -1,24 +1,22 @@
 -- The sections of a list entered one after another: what is known of the tree then, and of one that is not entered, and
 -- of a list whose sections give their rows and their headers away.
 use Rattle.std.proofs.Common.{◌≡◌, inl, inr, suc, ◌+◌, ◌<◌, ◌≤◌, true, false, List, [], ◌∷◌, ◌++◌, Some, None, is_some}
-use Rattle.std.proofs.Common.{if◌then◌else◌, refl, ap, sym, ◌∙◌, arith, reverse, ◌⊎◌, ℕ, map, length, Option}
-use Rattle.std.proofs.Common.{◌==◌, take, drop, get_or, Result, Ok, Err, IsErrAnd, Vec, Global}
+use Rattle.std.proofs.Common.{refl, ap, sym, ◌∙◌, arith, reverse, ◌⊎◌, ℕ, map, length, Option, ◌==◌, append_assoc}
+use Rattle.std.proofs.Common.{append-nil, length-append, drop, get_or, Result, Ok, Err, IsErrAnd, Vec, Global}
 use Rattle.std.proofs.lemmas.Bool.{not-true, false≢true, eqb-false}
 use Rattle.basic_toml_value.specs.Nesting.{nesting_limit}
 use Rattle.basic_toml_grammar.specs.Sections.{Section, texts, Key}
-use Rattle.basic_toml_grammar.specs.RowClash.{rows_clash}
 use Rattle.basic_toml_grammar.specs.IndexedPath.{located, located_after, located_from}
-use Rattle.basic_toml_grammar.specs.Document.{has_clash, tree_of_sections}
+use Rattle.basic_toml_grammar.specs.Document.{has_clash}
 use Rattle.basic_toml_grammar.specs.Entering.{all_keyed, all_keyed_within}
-use Rattle.basic_toml_grammar.specs.Growth.{closed}
-use Rattle.basic_toml_grammar.specs.Trie.{Trie, nothing, bare, walk, steps_to, put_section, put_sections}
+use Rattle.basic_toml_grammar.specs.Trie.{Trie, nothing, walk, steps_to, put_section, put_sections}
 use Rattle.basic_toml_grow.specs.Headers.{IsIn}
 use Rattle.basic_toml_tree.specs.FirstStop.{Stands, Entered, section}
-use Rattle.basic_toml_grow.proofs.HeadersInATrie.{walk_fresh, fresh}
+use Rattle.basic_toml_grow.proofs.HeadersInATrie.{Course, fresh}
 use Rattle.basic_toml_grammar.proofs.Tries.SectionsInATrie.{sections_put, sections_data}
 use Rattle.basic_toml_grammar.proofs.Tries.StepsArePaths.{at_section, put_append, deep_append}
 use Rattle.basic_toml_grammar.proofs.Nesting.DepthIsTheHighestLevel.{fits_where_shallow}
-use Rattle.std.proofs.lemmas.List.{map-append, length-map, map_more, take_all, length-take-le}
+use Rattle.std.proofs.lemmas.List.{map-append, length-map, drop_more, drop_all}
 use Rattle.basic_toml_grammar.specs.Faults.{Fault}
 use Rattle.basic_toml_grammar.specs.NamedClash.{dotted_fault}
 use Rattle.basic_toml_grammar.proofs.Naming.EveryClashIsNamed.{named_clashes}
@@ -40,31 +38,23 @@ use Rattle.basic_toml_tree.specs.declared.tree.Tree.{Tree}
 use Rattle.basic_toml_tree.specs.Resolve.{IsResolved, IsUnresolved, memory, refused, head, Resolves}
 use Rattle.basic_toml_tree.proofs.Origins.SectionsPlaceOrigins.{way_is, ComeFrom, none_come, more_come}
 use Rattle.basic_toml_tree.proofs.Nodes.RowNodesTold.{not_led}
-use Rattle.basic_toml_tree.proofs.SectionsStopped.{same_obstacle_fault, crossed_named, keyed_parts, level_there}
+use Rattle.basic_toml_tree.proofs.SectionsStopped.{same_obstacle_fault, crossed_named, keyed_parts, level_there, as_put}
 use Rattle.basic_toml_tree.proofs.TrieData.{table_trie_data}
 use Rattle.std.specs.Vec.{vec_len}
-use Rattle.std.proofs.Math.Seq.{split_at}
 use Rattle.basic_toml_read.proofs.RowsHaveKeys.{sections_have_keys}
 
--- One more section is taken as the tree takes it, on the same level: a fresh table takes it as nothing does.
+-- One more section is taken as the tree takes it.
 taken : (earlier : List Section) (s : Section) (t u : Trie) → Stands earlier t → put_section s t ≡ Some u
     → put_sections (earlier ++ s ∷ []) nothing ≡ Some u
-taken earlier s t u (inl e) put = rw (put_append earlier (s ∷ []) nothing, e, put) refl
-taken earlier s t u (inr e) put =
-    let fresh_is = ap (λ w. if rows_clash s.rows then None else w) (walk_fresh s.is_array s.rows (texts s.header)) in
-    let first : put_section s nothing ≡ Some u = sym fresh_is ∙ rw e.1 at put in rw (e.0, first) refl
-
--- the tree at the end
-whole_tree : (sections : List Section) (t : Trie) → Stands sections t → closed (bare t) ≡ tree_of_sections sections
-whole_tree sections t (inl e) = sections_data sections t e
-whole_tree sections t (inr e) = rw (e.0, e.1) refl
+taken earlier s t u stands put =
+    let was = as_put stands in
+    let same = ap (λ (c : Course). c.entered) (was.alike s) in
+    rw (put_append earlier (s ∷ []) nothing, was.is, ← same, put) refl
 
 pub no_clash : {sections : List Section} {t : Trie} → Entered sections t → all_keyed sections ≡ true
     → has_clash sections ≡ false
-no_clash {sections} entered keyed = elim entered.stands [
-  | inl e ↦ not-true (has_clash sections) (sym (sections_put sections keyed) ∙ ap is_some e)
-  | inr e ↦ ap has_clash e.0
-]
+no_clash {sections} entered keyed =
+    not-true (has_clash sections) (sym (sections_put sections keyed) ∙ ap is_some (as_put entered.stands).is)
 
 -- These sections are entered in a table, their headers are kept, and what rows and headers made comes from them.
 pub record HaveEntered (list : List Section) (headers : List (ℕ × List Key)) (root : Table) : Type 0 where
@@ -85,10 +75,10 @@ pub entered_resolved : (list : List Section) (tree : Tree) → HaveEntered list 
 entered_resolved list tree have keyed within =
     let origins = have.origins keyed in
     let clash = no_clash have.entered keyed in
-    record {
+    let put = as_put have.entered.stands in record {
       clash = clash;
       fits = fits_where_shallow nesting_limit list keyed within clash have.entered.shallow (omega arith);
-      grown = sym (table_trie_data tree.root) ∙ whole_tree list (table_trie tree.root) have.entered.stands;
+      grown = sym (table_trie_data tree.root) ∙ put.closes ∙ sections_data list put.trie put.is;
       stands = have.entered.stands;
       heads = have.heads;
       within = within;
@@ -178,50 +168,45 @@ module _ {list : List Section} {headers : List (ℕ × List Key)} {root : Table}
 
 -- What is known after so many sections: those before are entered, and those that are left are as they were.
 pub record Goes (old now : List code.Section) (n : ℕ) (headers : List (ℕ × List Key)) (root : Table) : Type 0 where
-  pub have : HaveEntered (map section_of (take n old)) headers root
+  pub list : List Section
+  pub have : HaveEntered list headers root
+  pub number : n ≡ length headers
   pub count : length now ≡ length old
-  pub left : (k : ℕ) (d : code.Section) → n ≤ k → get_or now k d ≡ get_or old k d
+  pub parts : map section_of old ≡ list ++ map section_of (drop n now)
 
 pub begins : (old : List code.Section) (headers : List (ℕ × List Key)) (root : Table) → headers ≡ []
     → table_trie root ≡ fresh → Goes old old 0 headers root
 begins old headers root none is = record {
+  list = [];
   have = none_entered headers root none is;
+  number = rw none refl;
   count = refl;
-  left = λ k d within. refl;
+  parts = refl;
 }
 
 -- the list, split at the next section
 module _ {old now : List code.Section} {n : ℕ} {headers : List (ℕ × List Key)} {root : Table}
     (goes : Goes old now n headers root) (s : code.Section) (within : n < length now) (is : s ≡ get_or now n s) where
-  was : get_or old n s ≡ s
-  was = sym (is ∙ goes.left n s (omega arith))
+  split : map section_of old ≡ goes.list ++ section_of s ∷ map section_of (drop (n + 1) now)
+  split = goes.parts ∙ rw (drop_more now n s within, ← is) refl
 
-  split : map section_of old ≡ map section_of (take n old) ++ section_of s ∷ map section_of (drop (suc n) old)
-  split = ap (map section_of) (split_at old n s (omega (arith, goes.count))) ∙ rw (map-append, was) refl
-
-  more : map section_of (take (n + 1) old) ≡ map section_of (take n old) ++ section_of s ∷ []
-  more = rw (map_more section_of old n s (omega (arith, goes.count)), was) refl
-
-  counted_headers : n ≡ length headers
-  counted_headers = omega (arith, goes.count, simp length-map at (ap length goes.have.heads), length-take-le n old)
-
-  pub goes_on : (next : List code.Section) (more_headers : List (ℕ × List Key)) (after : Table)
-      → GoesIn (section_of s) n root after → length next ≡ length now
-      → ((k : ℕ) (d : code.Section) → n + 1 ≤ k → get_or next k d ≡ get_or now k d)
-      → more_headers ≡ headers ++ head (section_of s) ∷ [] → Goes old next (n + 1) more_headers after
-  goes_on next more_headers after goes_in count same heads = record {
-    have = rw more (more_entered goes.have (section_of s) n after more_headers counted_headers goes_in heads);
+  pub goes_on : (next : List code.Section) (more : List (ℕ × List Key)) (after : Table)
+      → GoesIn (section_of s) n root after → length next ≡ length now → drop (n + 1) next ≡ drop (n + 1) now
+      → more ≡ headers ++ head (section_of s) ∷ [] → Goes old next (n + 1) more after
+  goes_on next more after goes_in count same heads = record {
+    list = goes.list ++ section_of s ∷ [];
+    have = more_entered goes.have (section_of s) n after more goes.number goes_in heads;
+    number = omega (arith, goes.number, simp length-append at (ap length heads));
     count = count ∙ goes.count;
-    left = λ k d past. same k d past ∙ goes.left k d (omega (arith, past));
+    parts = split ∙ rw (same, append_assoc) refl;
   }
 
   -- a section that is not entered, and its fault
   pub stays_out : first_crossed (map section_of old) ≡ None → (c : Clash) (fault : Fault)
       → NamesObstacle (first_obstacle (section_of s) (table_trie root)) c → (after : code.Section) → after.at ≡ s.at
       → after.header ≡ s.header → NamesClash after c fault → IsUnresolved (map section_of old) fault
-  stays_out none c fault met after same header names =
-      rw split (kept_out goes.have s (map section_of (drop (suc n) old)) (rw split at none) c fault met after same
-      header names)
+  stays_out none =
+      rw split (kept_out goes.have s (map section_of (drop (n + 1) now)) (rw split at none))
 
 -- what is answered where memory is refused, where a row goes on from a value, and at the end
 pub want_of : (ss : Vec code.Section Global) (r : Result Tree Fault) → (vec_len ss == 0) ≡ false
@@ -233,4 +218,6 @@ want_of ss (Err fault) some is = λ keyed. rw is (memory (λ none.
 pub resolved : {old now : List code.Section} {n : ℕ} (tree : Tree) → Goes old now n tree.headers tree.root
     → length old ≤ n → all_keyed (map section_of old) ≡ true → IsResolved (map section_of old) tree
 resolved {old} {now} {n} tree goes past keyed =
-    entered_resolved (map section_of old) tree (rw (take_all n old past) at goes.have) keyed (sections_have_keys old)
+    let none : drop n now ≡ [] = drop_all n now (omega (arith, goes.count)) in
+    let all : map section_of old ≡ goes.list = goes.parts ∙ rw (none, append-nil) refl in
+    entered_resolved (map section_of old) tree (rw all goes.have) keyed (sections_have_keys old)

@@ -6,6 +6,7 @@ use Rattle.std.specs.Option.{option_or}
 use Rattle.std.proofs.lemmas.Bool.{and_parts}
 use Rattle.basic_toml_grammar.specs.Sections.{Section, texts}
 use Rattle.basic_toml_grammar.specs.Entering.{is_keyed, all_keyed}
+use Rattle.basic_toml_grammar.specs.Growth.{closed}
 use Rattle.basic_toml_grammar.specs.Faults.{Fault, nested_too_deeply, out_of_memory}
 use Rattle.basic_toml_grammar.specs.GrammarFaults.{fault_at}
 use Rattle.basic_toml_grammar.specs.IndexedPath.{located, located_after, located_from}
@@ -13,13 +14,13 @@ use Rattle.basic_toml_grammar.specs.NestingFaults.{deep_sections, tree_level}
 use Rattle.basic_toml_grammar.specs.NamedClash.{NamesClash, dotted_fault, dotted_faults, repeated_faults_of}
 use Rattle.basic_toml_grammar.specs.NamedClash.{section_faults, first_of_two}
 use Rattle.basic_toml_value.specs.Nesting.{nesting_limit}
-use Rattle.basic_toml_grammar.specs.Trie.{Trie, nothing, section_level_in}
+use Rattle.basic_toml_grammar.specs.Trie.{Trie, nothing, bare, put_sections, section_level_in}
 use Rattle.basic_toml_grammar.proofs.Naming.TrieStopsAreNamed.{trie_stops_named}
 use Rattle.basic_toml_grow.specs.Clash.{Obstacle, too_deep, in_the_way, obstacle_fault}
 use Rattle.basic_toml_tree.specs.FirstStop.{Stands, Entered, StopsSection, SectionsFault, value, section}
 use Rattle.basic_toml_grow.specs.Crossed.{first_crossed}
 use Rattle.basic_toml_grow.proofs.CrossedIsFault.{tells_sections}
-use Rattle.basic_toml_grow.proofs.HeadersInATrie.{met_fresh, steps_fresh}
+use Rattle.basic_toml_grow.proofs.HeadersInATrie.{Course, course, course_fresh}
 use Rattle.basic_toml_grow.proofs.ObstaclesAreStops.{met_deep, met_stops}
 use Rattle.std.proofs.lemmas.List.Elements.{Contains-append_right}
 use Rattle.basic_toml_grammar.proofs.Tries.StepsArePaths.{level_is_tree_level, at_section, deep_append}
@@ -60,12 +61,29 @@ crossed_named sections at there =
     (flat_map repeated_faults_of sections ++ section_faults (located sections)) (dotted_fault at)
     (rw there at (tells_sections sections))
 
+-- a list put into a trie: what sections grow from nothing takes one more as the trie does, and closes to the same
+pub record Put (sections : List Section) (t : Trie) : Type 0 where
+  pub trie : Trie
+  pub is : put_sections sections nothing ≡ Some trie
+  pub closes : closed (bare t) ≡ closed (bare trie)
+  pub alike : (s : Section)
+      → course s.is_array s.rows (texts s.header) 1 t ≡ course s.is_array s.rows (texts s.header) 1 trie
+
+pub as_put : {sections : List Section} {t : Trie} → Stands sections t → Put sections t
+as_put {t = t} (inl e) = record { trie = t; is = e; closes = refl; alike = λ s. refl }
+as_put (inr e) = record {
+  trie = nothing;
+  is = rw e.0 refl;
+  closes = rw e.1 refl;
+  alike = λ s. rw e.1 (course_fresh s.is_array s.rows (texts s.header) 1);
+}
+
 -- a section is on the level in the trie of those before it that its path has
 pub level_there : (earlier : List Section) (s : Section) (t : Trie) → Stands earlier t
     → section_level_in t s ≡ tree_level (located_after (reverse earlier) s)
-level_there earlier s t (inl e) = level_is_tree_level earlier s t e
-level_there earlier s t (inr e) =
-    rw (e.0, e.1, steps_fresh s.is_array (texts s.header)) (level_is_tree_level [] s nothing refl)
+level_there earlier s t stands =
+    let put = as_put stands in
+    rw (ap (λ (c : Course). c.steps) (put.alike s)) (level_is_tree_level earlier s put.trie put.is)
 
 -- a section above the limit is one of those that are too deep by their paths
 deep_by_path : (earlier : List Section) (s : Section) (t : Trie) (later : List Section) → Entered earlier t
@@ -96,13 +114,10 @@ stop_is_named before s later t fault keyed none entered (in_the_way stop, (met, 
     let free = rw none at (tells_sections (before ++ s ∷ later)) in
     let parts = keyed_parts before (s ∷ later) keyed in
     let here = (and_parts (is_keyed s) (all_keyed later) parts.1).0 in
-    inl (rw is (elim entered.stands [
-      | inl put ↦ trie_stops_named before s later t stop parts.0 here free put
-          (met_stops s.is_array s.rows (texts s.header) 1 t stop met)
-      | inr first ↦ rw first.0 (trie_stops_named [] s later nothing stop refl here (rw first.0 at free) refl
-          (met_stops s.is_array s.rows (texts s.header) 1 nothing stop
-          (sym (met_fresh s.is_array s.rows (texts s.header) 1) ∙ rw first.1 at met)))
-    ]))
+    let put = as_put entered.stands in
+    let same = sym (ap (λ (c : Course). c.met) (put.alike s)) ∙ met in
+    inl (rw is (trie_stops_named before s later put.trie stop parts.0 here free put.is
+    (met_stops s.is_array s.rows (texts s.header) 1 put.trie stop same)))
 
 pub fault_is_named : (sections : List Section) (fault : Fault) → all_keyed sections ≡ true
     → SectionsFault sections fault → IsNamed sections fault

@@ -1,22 +1,25 @@
--- The data of an item's trie is that of the item.
+-- The data of an item's trie is that of the item; the data of the rows of a section, and of the table that they are.
 use Rattle.std.proofs.Common.{◌≡◌, ℕ, suc, true, false, List, [], ◌∷◌, ◌++◌, map, Some, None, Option, refl, ap}
-use Rattle.std.proofs.Common.{◌∙◌, subst, rules, length}
+use Rattle.std.proofs.Common.{◌∙◌, subst, sym, rules, length}
 use Rattle.std.proofs.lemmas.List.{map-append}
+use Rattle.std.proofs.lemmas.Simd.{map-map}
 use Rattle.basic_toml_value.specs.Data.{Data, item, items_of, members_of}
 use Rattle.basic_toml_grammar.specs.Standing.{Standing, table, array}
 use Rattle.basic_toml_grammar.specs.Growth as growth
 use Rattle.basic_toml_grammar.specs.Trie.{Trie, trie, bare_tries}
 use Rattle.basic_toml_read.specs.declared.section.Row.{Row}
+use Rattle.basic_toml_plain.specs.Plain.{are_few_simple, rows_data}
 use Rattle.basic_toml_plain.specs.Tries.{tree_data, row_trie, rows_trie}
-use Rattle.basic_toml_plain.specs.PlainTables.{SectionTable}
 use Rattle.basic_toml_plain.specs.Values.{section_data}
-use Rattle.basic_toml_plain.proofs.RowsData.{keys_data, rows_agree}
-use Rattle.basic_toml_grow.specs.declared.item.Item.{Item, the_lemmas}
+use Rattle.basic_toml_plain.proofs.RowsData.{few_data, keys_data, rows_agree}
+use Rattle.basic_toml_grow.specs.declared.item.Item.{Item, Section, the_lemmas}
 use Rattle.basic_toml_grow.specs.declared.item.Item.TheOpen.{Item-F, Child-F, Table-F}
 use Rattle.basic_toml_grow.specs.declared.item.Item.TheViews.{roll-Item, roll-Child, roll-Table}
 use Rattle.basic_toml_grow.specs.declared.item.Item.TheFolds.{ind-Item, ind-Table, map-Item, map-Child, map-Table}
 use Rattle.basic_toml_grow.specs.declared.item.Child.{Child}
 use Rattle.basic_toml_grow.specs.declared.item.Table.{Table}
+use Rattle.basic_toml_grow.specs.Simple.{section_table}
+use Rattle.basic_toml_grow.proofs.SectionTables.{section_trie}
 use Rattle.basic_toml_grow.specs.Item.{item_trie, child_trie, table_trie, by_numbers}
 use Rattle.basic_toml_tree.specs.Data.{data_of, child_data, table_data}
 
@@ -57,10 +60,6 @@ entries_agree (p ∷ ps) = rw (p.1.1, entries_agree ps) refl
 section_agrees : (rows : List Row) → tree_data (rows_trie rows) ≡ section_data rows
 section_agrees rows = rw (keys_data (Some (table false true false)) (map row_trie rows), rows_agree rows) refl
 
-sections_agree : (ts : List SectionTable) → map tree_data (map (λ t. rows_trie t.1) ts) ≡ map (λ t. section_data t.1) ts
-sections_agree [] = refl
-sections_agree (t ∷ ts) = rw (section_agrees t.1, sections_agree ts) refl
-
 -- an item whose parts come with what is to be shown of them
 abbrev With : {A : Type 0} → (A → Type 0) → Type 0
 With {A} P = (x : A) × P x
@@ -83,7 +82,7 @@ item_agrees (Item-F.Tables e) =
 item_agrees (Item-F.Sections tables) =
     let ts : List Trie = map (λ t. rows_trie t.1) tables.value.0 in
     simp the_lemmas (numbers_data (Some (array (suc (length tables.value.0)))) ts (rows_trie tables.value.1.1)
-    ∙ rw (sections_agree tables.value.0, section_agrees tables.value.1.1) refl)
+    ∙ simp (map-map, section_agrees))
 item_agrees y = search (rules, the_lemmas)
 
 item_case : (x : Item-F Item Child Table) (y : Item-F (With OfItem) (With OfChild) (With OfTable))
@@ -105,3 +104,14 @@ item_trie_data = ind-Item OfItem OfChild OfTable item_case child_case table_case
 
 pub table_trie_data : (t : Table) → tree_data (table_trie t) ≡ table_data t
 table_trie_data = ind-Table OfItem OfChild OfTable item_case child_case table_case
+
+pub section_rows : (rows : List Row) → are_few_simple 0 rows ≡ true → data_of (Section rows) ≡ rows_data rows
+section_rows rows simple =
+    let item : data_of (Section rows) ≡ section_data rows = search (rules, the_lemmas) in
+    item ∙ sym (few_data rows simple)
+
+pub section_table_data : (s : ℕ) (rows : List Row) → are_few_simple 0 rows ≡ true
+    → table_data (section_table s rows) ≡ rows_data rows
+section_table_data s rows simple =
+    rw (← table_trie_data (section_table s rows), ← section_trie s rows simple)
+    (item_trie_data (Section rows) ∙ section_rows rows simple)

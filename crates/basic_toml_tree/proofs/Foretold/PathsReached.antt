@@ -1,10 +1,10 @@
 -- Where the tree of mentions has data at a path, a mention leads there: it goes on from the path, or the path goes on
 -- from it into its value. There what rows bring comes from somewhere.
 use Rattle.std.proofs.Common.{◌≡◌, ◌+◌, ℕ, zero, suc, Bool, true, false, List, [], ◌∷◌, Option, Some, None, refl, arith}
-use Rattle.std.proofs.Common.{inl, inr, sym, ◌∙◌}
-use Rattle.std.specs.Prelude.{◌||◌, ◌&&◌, if◌then◌else◌, is_some, slice_get}
+use Rattle.std.proofs.Common.{inl, inr, ◌++◌, drop, length}
+use Rattle.std.specs.Prelude.{◌||◌, if◌then◌else◌, is_some, slice_get}
 use Rattle.std.specs.List.{list_any}
-use Rattle.std.specs.Option.{option_and_then, option_or}
+use Rattle.std.specs.Option.{option_and_then}
 use Rattle.std.proofs.lemmas.Bool.{false≢true, or_left, or_right, cases_Bool, or_parts}
 use Rattle.basic_toml_value.specs.Data.{Data}
 use Rattle.basic_toml_grammar.specs.Sections.{KeyTexts, texts, Rows, no_rows, row, Raw, Elements, no_elements, element}
@@ -22,9 +22,10 @@ use Rattle.basic_toml_tree.specs.Nodes.{data_among, listed}
 use Rattle.basic_toml_tree.specs.Paths.{data_along}
 use Rattle.std.proofs.lemmas.List.Folds.{list_any-append}
 use Rattle.basic_toml_grammar.specs.IndexedPath.{Located}
-use Rattle.basic_toml_grow.specs.Origins.{Origin, Origins, under, table_origin, along, row_origins, value_origins}
+use Rattle.basic_toml_grow.specs.Origins.{Origins, under, table_origin, along, row_origins, value_origins}
 use Rattle.basic_toml_grow.specs.Origins.{elements_origins, rows_origins}
 use Rattle.basic_toml_grow.specs.Ways.{sections_origins}
+use Rattle.basic_toml_tree.proofs.Origins.RowsAreNodes.{keys_along, along_or}
 
 -- the numbers among the branches are those from the first on, and so at each node
 abbrev mutual
@@ -70,9 +71,6 @@ grow_rows no_rows g h = h
 grow_rows (row keys at v rows) g h =
     grow_rows rows (grow g (steps_of (texts keys)) (Some (finished v))) (grow_keys (texts keys) (Some (finished v)) g h)
 
-pub rows_in_turn : (rows : Rows) → InTurn (grow_all nothing_grown (row_mentions [] rows))
-rows_in_turn rows = grow_rows rows nothing_grown tt
-
 -- a path that branches lead along, or that ends in a value on the way
 abbrev mutual
   reaches : Growth → Path → Bool
@@ -91,9 +89,8 @@ among_branches (number n) bs = slice_get (listed (items_of bs)) n
 
 by_step : (bs : Branches) (s : Step) (p : Path) → is_some (data_along (s ∷ p) (closed_branches bs)) ≡ true
     → is_some (option_and_then (data_along p) (among_branches s bs)) ≡ true
-by_step (branch (key l) g bs) (key k) p e = e
-by_step (branch (number i) g bs) (number n) p e = e
-by_step bs s p e = grind arith
+by_step no_branches s p e = grind arith
+by_step (branch t g bs) s p e = grind arith
 
 mutual
   closed_reached : (g : Growth) (p : Path) → InTurn g → is_some (data_along p (closed g)) ≡ true → reaches g p ≡ true
@@ -119,21 +116,18 @@ mutual
   items_reached (branch (number i) g bs) j (suc n) m p is h e =
       grind (arith, is, h.0, items_reached bs (suc j) n m p (omega (arith, is)) h.2 e)
 
--- a mention that leads to a path
+-- a mention that leads to a path: it goes on from it, or the path goes on from the mention into its value
 abbrev pub leads : Path → Option Data → Path → Bool
-leads [] v [] = true
-leads (t ∷ w) v [] = true
-leads [] None (s ∷ p) = false
-leads [] (Some d) (s ∷ p) = is_some (data_along (s ∷ p) d)
-leads (t ∷ w) v (s ∷ p) = step_eq t s && leads w v p
+leads w None p = begins p w
+leads w (Some d) p = if begins w p then is_some (data_along (drop (length w) p) d) else begins p w
 
 abbrev pub any_leads : List Mention → Path → Bool
 any_leads ms p = list_any (λ m. leads m.path m.value p) ms
 
 shoot_leads : (w : Path) (v : Option Data) (p : Path) → reaches (shoot w v) p ≡ true → leads w v p ≡ true
-shoot_leads [] None (s ∷ p) e = e
-shoot_leads (t ∷ w) v (s ∷ p) e = grind (arith, shoot_leads w v p)
-shoot_leads w v p e = e
+shoot_leads [] v p e = grind arith
+shoot_leads (t ∷ w) v [] e = grind arith
+shoot_leads (t ∷ w) v (s ∷ p) e = grind (arith, turn_eq t s, shoot_leads w v p)
 
 mutual
   grow_leads : (g : Growth) (w : Path) (v : Option Data) (p : Path) → reaches (grow g w v) p ≡ true
@@ -145,9 +139,10 @@ mutual
   grow_leads g w v p e = or_left _ _ e
 
   at_leads : (bs : Branches) (t : Step) (w : Path) (v : Option Data) (s : Step) (p : Path)
-      → reaches_by (grow_at bs t w v) s p ≡ true → (reaches_by bs s p || (step_eq t s && leads w v p)) ≡ true
+      → reaches_by (grow_at bs t w v) s p ≡ true → (reaches_by bs s p || leads (t ∷ w) v (s ∷ p)) ≡ true
   at_leads no_branches t w v s p e = shoot_leads (t ∷ w) v (s ∷ p) e
-  at_leads (branch r g bs) t w v s p e = grind (arith, step_is r t, grow_leads g w v p, at_leads bs t w v s p)
+  at_leads (branch r g bs) t w v s p e =
+      grind (arith, step_is r t, turn_eq t s, grow_leads g w v p, at_leads bs t w v s p)
 
 all_lead : (ms : List Mention) (g : Growth) (p : Path) → reaches (grow_all g ms) p ≡ true
     → (reaches g p || any_leads ms p) ≡ true
@@ -161,27 +156,12 @@ tree_leads ms s p h e = all_lead ms nothing_grown (s ∷ p) (closed_reached (gro
 abbrev Found : Origins → Path → Type 0
 Found f p = is_some (f p) ≡ true
 
--- what is found in the one or in the other is found
-either : (o r : Option Origin) (a b : Bool) → (a ≡ true → is_some o ≡ true) → (b ≡ true → is_some r ≡ true)
-    → (a || b) ≡ true → is_some (option_or o r) ≡ true
-either o r a b here later e = grind arith
-
--- a row, whose value is found
-row_found : (ks : KeyTexts) (o : Origin) (d : Data) (f : Origins)
-    → ((p : Path) → is_some (data_along p d) ≡ true → Found f p) → (t : Step) (p : Path)
-    → leads (steps_of ks) (Some d) (t ∷ p) ≡ true → Found (row_origins ks o f) (t ∷ p)
-row_found [] o d f value t p e = value (t ∷ p) e
-row_found (k ∷ []) o d f value t [] e = grind (arith, turn_eq t (key k), value [])
-row_found (k ∷ []) o d f value t (u ∷ p) e = grind (arith, turn_eq t (key k), value (u ∷ p))
-row_found (k ∷ l ∷ ks) o d f value t [] e = grind (arith, turn_eq t (key k))
-row_found (k ∷ l ∷ ks) o d f value t (u ∷ p) e = grind (arith, turn_eq t (key k), row_found (l ∷ ks) o d f value u p)
-
 mutual
   value_found : (s at : ℕ) (v : Raw) (p : Path) → is_some (data_along p (finished v)) ≡ true
       → Found (value_origins s at v) p
   value_found s at (Raw.array es) (number n ∷ p) e = element_found s es n p e
   value_found s at (Raw.inline rows) (t ∷ p) e =
-      rows_found s rows t p (tree_leads (row_mentions [] rows) t p (rows_in_turn rows) e)
+      rows_found s [] rows (t ∷ p) refl (tree_leads (row_mentions [] rows) t p (grow_rows rows nothing_grown tt) e)
   value_found s at v [] e = refl
   value_found s at v (key k ∷ p) e = e
   value_found s at v p e = e
@@ -193,38 +173,28 @@ mutual
   element_found s (element at v es) zero p e = value_found s at v p e
   element_found s (element at v es) (suc n) p e = element_found s es n p e
 
-  pub rows_found : (s : ℕ) (rows : Rows) (t : Step) (p : Path) → any_leads (row_mentions [] rows) (t ∷ p) ≡ true
-      → Found (rows_origins s rows) (t ∷ p)
-  rows_found s no_rows t p e = e
-  rows_found s (row keys at v rows) t p e =
-      either _ _ (leads (steps_of (texts keys)) (Some (finished v)) (t ∷ p)) (any_leads (row_mentions [] rows) (t ∷ p))
-      (row_found (texts keys) (table_origin false at s) (finished v) (value_origins s at v) (value_found s at v) t p)
-      (rows_found s rows t p) e
-
--- rows below the table of a section, one step further
-one_step : (r t : Step) (w p : Path) (rows : Rows) → any_leads (row_mentions (r ∷ w) rows) (t ∷ p) ≡ true
-    → (step_eq r t ≡ true) × (any_leads (row_mentions w rows) p ≡ true)
-one_step r t w p no_rows e = absurd (false≢true e)
-one_step r t w p (row keys at v rows) e = (grind (arith, one_step r t w p rows), grind (arith, one_step r t w p rows))
-
-rows_along : (n : ℕ) (rows : Rows) (w p : Path) → begins p w ≡ false → any_leads (row_mentions w rows) p ≡ true
-    → Found (along w (rows_origins n rows)) p
-rows_along n rows w [] not e = absurd (false≢true (sym not))
-rows_along n rows [] (t ∷ p) not e = rows_found n rows t p e
-rows_along n rows (r ∷ w) (t ∷ p) not e = grind (arith, turn_eq t r, one_step r t w p rows e, rows_along n rows w p)
-
--- a table that leads to a path goes on from it
-table_begins : (w p : Path) → leads w None p ≡ true → begins p w ≡ true
-table_begins w [] e = refl
-table_begins [] (s ∷ p) e = absurd (false≢true e)
-table_begins (r ∷ w) (t ∷ p) e = grind (arith, turn_eq t r, table_begins w p)
+  -- rows below a table
+  rows_found : (s : ℕ) (w : Path) (rows : Rows) (p : Path) → begins p w ≡ false
+      → any_leads (row_mentions w rows) p ≡ true → Found (along w (rows_origins s rows)) p
+  rows_found s w no_rows p not e = absurd (false≢true e)
+  rows_found s w (row keys at v rows) p not e =
+      let steps = w ++ steps_of (texts keys) in
+      let f : Origins = value_origins s at v in
+      rw (
+        along_or w (row_origins (texts keys) (table_origin false at s) f) (rows_origins s rows) p,
+        keys_along w (texts keys) (table_origin false at s) f p not,
+      )
+      (grind (arith, value_found s at v (drop (length steps) p), rows_found s w rows p not))
 
 pub sections_found : (n : ℕ) (ls : List Located) (p : Path) → list_any (λ l. begins p l.path) ls ≡ false
     → any_leads (mentions ls) p ≡ true → Found (sections_origins n ls) p
 sections_found n [] p not e = e
 sections_found n (l ∷ ls) p not e =
     let both = or_parts (begins p l.path) (list_any (λ l. begins p l.path) ls) not in
-    either _ _ (leads l.path None p || any_leads (row_mentions l.path l.section.rows) p) (any_leads (mentions ls) p)
-    (λ e. grind (arith, table_begins l.path p, rows_along n l.section.rows l.path p))
-    (sections_found (suc n) ls p both.1)
-    (sym (list_any-append (λ m. leads m.path m.value p) (section_mentions l.path l.section.rows) (mentions ls)) ∙ e)
+    let marks = section_mentions l.path l.section.rows in
+    grind (
+      arith,
+      list_any-append (λ m. leads m.path m.value p) marks (mentions ls),
+      rows_found n l.path l.section.rows p both.0,
+      sections_found (suc n) ls p both.1,
+    )

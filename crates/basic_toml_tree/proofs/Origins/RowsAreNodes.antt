@@ -1,7 +1,7 @@
 -- What the rows of sections bring into the tree is what the section list says of it.
 use Rattle.std.proofs.Common.{◌≡◌, ◌⊎◌, inl, inr, ℕ, zero, suc, Bool, true, false, List, [], ◌∷◌, ◌++◌, Option, Some}
 use Rattle.std.proofs.Common.{None, refl, ap, sym, length, drop, slice_get, option_map, arith}
-use Rattle.std.specs.Prelude.{◌||◌, ◌&&◌, if◌then◌else◌}
+use Rattle.std.specs.Prelude.{if◌then◌else◌}
 use Rattle.std.specs.List.{list_any, list_all}
 use Rattle.std.specs.Option.{option_or}
 use Rattle.std.proofs.lemmas.Bool.{false≢true, and_parts, or_parts, cases_Bool, and_right}
@@ -10,13 +10,13 @@ use Rattle.basic_toml_grammar.specs.Sections.{Rows, no_rows, row}
 use Rattle.basic_toml_grammar.specs.Steps.{Step, key, number, Path, step_eq, begins, overlap, steps_of}
 use Rattle.basic_toml_grammar.specs.RowClash.{any_overlaps, rows_clash, value_clashes, elements_clash}
 use Rattle.basic_toml_grammar.specs.IndexedPath.{Located}
-use Rattle.basic_toml_grammar.specs.Entering.{has_key, keyed_within, value_keyed, elements_keyed}
+use Rattle.basic_toml_grammar.specs.Entering.{keyed_within, value_keyed, elements_keyed}
 use Rattle.basic_toml_grammar.specs.NamedClash.{first_key}
 use Rattle.basic_toml_grammar.specs.Nodes.{Node, front, holder_in, node_in, node_among, node_by}
-use Rattle.basic_toml_grammar.specs.Nodes.{holder, node_of_rows, node_of_sections}
+use Rattle.basic_toml_grammar.specs.Nodes.{node_of_rows, node_of_sections}
 use Rattle.basic_toml_grammar.proofs.Clash.ClashesAgree.{turn_eq}
 use Rattle.basic_toml_grammar.proofs.Clash.StepTestsDecide.{step_is, step_same}
-use Rattle.basic_toml_grow.specs.Origins.{Origin, Origins, under, table_origin, along}
+use Rattle.basic_toml_grow.specs.Origins.{Origin, Origins, or_else, under, table_origin, along}
 use Rattle.basic_toml_grow.specs.Origins.{row_origins, value_origins, elements_origins, rows_origins}
 use Rattle.basic_toml_grow.specs.Ways.{sections_origins}
 use Rattle.basic_toml_grow.proofs.Origins.OriginsSeen.{or_none}
@@ -47,6 +47,26 @@ keys_begin [] o f r q = refl
 keys_begin (k ∷ l ∷ ls) o f r (t ∷ p) = grind (arith, turn_eq (key k) r, keys_begin (l ∷ ls) o f t p)
 keys_begin (k ∷ ks) o f r q = grind (arith, turn_eq (key k) r)
 
+-- so it is on from a path
+pub keys_along : (w : Path) (ks : KeyTexts) (o : Origin) (f : Origins) (p : Path) → begins p w ≡ false
+    → along w (row_origins ks o f) p ≡ by_keys (w ++ steps_of ks) o f p
+keys_along w ks o f [] not = absurd (false≢true (sym not))
+keys_along [] ks o f (r ∷ q) not = keys_begin ks o f r q
+keys_along (s ∷ w) ks o f (t ∷ p) not = grind (arith, turn_eq s t, keys_along w ks o f p)
+
+along_is : (w p : Path) (f : Origins) → along w f p ≡ (if begins w p then f (drop (length w) p) else None)
+along_is [] p f = refl
+along_is (s ∷ w) [] f = refl
+along_is (s ∷ w) (t ∷ p) f = grind (arith, turn_eq s t, along_is w p f)
+
+pub along_or : (w : Path) (f g : Origins) (p : Path) → along w (or_else f g) p ≡ option_or (along w f p) (along w g p)
+along_or w f g p = rw (along_is w p (or_else f g), along_is w p f, along_is w p g) (grind arith)
+
+-- a path that goes on from another one
+pub begins_on : (w steps x : Path) → begins (w ++ steps) (w ++ x) ≡ begins steps x
+begins_on [] steps x = refl
+begins_on (s ∷ w) steps x = rw step_same (begins_on w steps x)
+
 pub goes_on : (p x q : Path) → begins p x ≡ true → begins x q ≡ true → begins p q ≡ true
 goes_on [] x q a b = refl
 goes_on (s ∷ p) (t ∷ x) (u ∷ q) a b = grind (arith, step_is s t, goes_on p x q)
@@ -61,12 +81,16 @@ neither_begins (s ∷ p) (t ∷ q) (u ∷ x) here apart =
 neither_begins p q x here apart = absurd (cc)
 
 -- below the value of a row no later row brings anything
-none_later : (s : ℕ) (steps : Path) (rows : Rows) (r : Step) (q : Path) → begins steps (r ∷ q) ≡ true
-    → any_overlaps steps rows ≡ false → rows_origins s rows (r ∷ q) ≡ None
-none_later s steps no_rows r q here apart = refl
-none_later s steps (row ks at v rows) r q here apart =
-    let first = keys_begin (texts ks) (table_origin false at s) (value_origins s at v) r q in
-    grind (arith, first, neither_begins steps (steps_of (texts ks)) (r ∷ q) here, none_later s steps rows r q here)
+none_later : (s : ℕ) (w steps : Path) (rows : Rows) (p : Path) → begins p w ≡ false → begins (w ++ steps) p ≡ true
+    → any_overlaps steps rows ≡ false → along w (rows_origins s rows) p ≡ None
+none_later s w steps no_rows p back here apart = rw along_is (grind arith)
+none_later s w steps (row ks at v rows) p back here apart =
+    let others = steps_of (texts ks) in
+    let apart = or_parts (overlap steps others) (any_overlaps steps rows) apart in
+    let off = neither_begins (w ++ steps) (w ++ others) p here
+    (rw (begins_on w steps others, begins_on w others steps) apart.0) in
+    rw (along_or, keys_along w (texts ks) (table_origin false at s) (value_origins s at v) p back, off.0, off.1)
+    (none_later s w steps rows p back here apart.1)
 
 -- one of three: below the value, a table on the way to it, or in a later row
 chosen : (a b : Bool) (m n : Option Node) (o p : Option Origin) (d : Node) (e : Origin)
@@ -75,23 +99,20 @@ chosen : (a b : Bool) (m n : Option Node) (o p : Option Origin) (d : Node) (e : 
 chosen a b m n o p d e value table later none = grind (arith, or_none o)
 
 -- a row brings the same where its value and the rows after it do
-row_same : (s at : ℕ) (ks : List Key) (v : Raw) (rows : Rows) (r : Step) (q : Path) (m n : Option Node) (d : Node)
-    → rows_clash (row ks at v rows) ≡ false → keyed_within (row ks at v rows) ≡ true
+row_same : (s at : ℕ) (ks : List Key) (v : Raw) (rows : Rows) (w p : Path) (m n : Option Node) (d : Node)
+    → begins p w ≡ false → rows_clash (row ks at v rows) ≡ false → keyed_within (row ks at v rows) ≡ true
     → Same (Some d) (Some (table_origin false at s))
     → (value_clashes v ≡ false → value_keyed v ≡ true
-    → Same m (value_origins s at v (drop (length (steps_of (texts ks))) (r ∷ q))))
-    → (rows_clash rows ≡ false → keyed_within rows ≡ true → Same n (rows_origins s rows (r ∷ q)))
-    → Same (if begins (steps_of (texts ks)) (r ∷ q) then m
-    else if begins (r ∷ q) (steps_of (texts ks)) then Some d else n) (rows_origins s (row ks at v rows) (r ∷ q))
-row_same s at ks v rows r q m n d apart keyed table value later =
+    → Same m (value_origins s at v (drop (length (w ++ steps_of (texts ks))) p)))
+    → (rows_clash rows ≡ false → keyed_within rows ≡ true → Same n (along w (rows_origins s rows) p))
+    → Same (if begins (w ++ steps_of (texts ks)) p then m
+    else if begins p (w ++ steps_of (texts ks)) then Some d else n) (along w (rows_origins s (row ks at v rows)) p)
+row_same s at ks v rows w p m n d back apart keyed table value later =
     let steps = steps_of (texts ks) in
-    let keys_in = and_parts (has_key ks && value_keyed v) (keyed_within rows) keyed in
-    let split = or_parts (any_overlaps steps rows || value_clashes v) (rows_clash rows) apart in
-    let first = or_parts (any_overlaps steps rows) (value_clashes v) split.0 in
-    rw (keys_begin (texts ks) (table_origin false at s) (value_origins s at v) r q)
-    (chosen (begins steps (r ∷ q)) (begins (r ∷ q) steps) m n _ _ d (table_origin false at s)
-    (value first.1 (and_parts (has_key ks) (value_keyed v) keys_in.0).1) table (later split.1 keys_in.1)
-    (λ here. none_later s steps rows r q here first.0))
+    rw (along_or, keys_along w (texts ks) (table_origin false at s) (value_origins s at v) p back)
+    (chosen (begins (w ++ steps) p) (begins p (w ++ steps)) m n _ _ d (table_origin false at s)
+    (value (grind arith) (grind arith)) table (later (or_parts _ _ apart).1 (and_parts _ _ keyed).1)
+    (λ here. none_later s w steps rows p back here (or_parts _ _ (or_parts _ _ apart).0).0))
 
 -- rows with keys bring nothing to numbers
 no_numbers : (s : ℕ) (rows : Rows) (n : ℕ) (p : Path) → keyed_within rows ≡ true
@@ -127,7 +148,7 @@ mutual
       → Same (node_by keys outer all rows (r ∷ q)) (rows_origins s rows (r ∷ q))
   by_same keys outer s all no_rows r q apart keyed = refl
   by_same keys outer s all (row ks at v rows) r q apart keyed =
-      row_same s at ks v rows r q _ _ _ apart keyed refl
+      row_same s at ks v rows [] (r ∷ q) _ _ _ refl apart keyed refl
       (value_same keys (holder_in outer all (front (steps_of (texts ks)))) s at v _) (by_same keys outer s all rows r q)
 
 pub begins_front : (p r q : Path) → begins (p ++ r) q ≡ true → begins p q ≡ true
@@ -135,40 +156,15 @@ begins_front [] r q e = refl
 begins_front (s ∷ p) r [] e = absurd (false≢true e)
 begins_front (s ∷ p) r (t ∷ q) e = grind (arith, begins_front p r q)
 
--- a path that goes on from another one
-pub begins_on : (w steps x : Path) → begins (w ++ steps) (w ++ x) ≡ begins steps x
-begins_on [] steps x = refl
-begins_on (s ∷ w) steps x = rw step_same (begins_on w steps x)
-
-drop_on : (w steps x : Path) → drop (length (w ++ steps)) (w ++ x) ≡ drop (length steps) x
-drop_on [] steps x = refl
-drop_on (s ∷ w) steps x = drop_on w steps x
-
 pub along_on : (w x : Path) (f : Origins) → along w f (w ++ x) ≡ f x
 along_on [] x f = refl
 along_on (s ∷ w) x f = rw step_same (along_on w x f)
 
--- rows of a section, below its table
+-- rows of a section, apart from its table
 module _ (ls : List Located) (last : Option ℕ) (l : Located) (n : ℕ) where
-  rows_same : (rows : Rows) (r : Step) (q : Path) → rows_clash rows ≡ false → keyed_within rows ≡ true
-      → Same (node_of_rows ls last l rows (l.path ++ r ∷ q)) (rows_origins n rows (r ∷ q))
-  rows_same no_rows r q apart keyed = refl
-  rows_same (row ks at v rows) r q apart keyed =
-      let steps = steps_of (texts ks) in
-      let outer = holder ls last (front (l.path ++ steps)) in
-      rw (begins_on l.path steps (r ∷ q), begins_on l.path (r ∷ q) steps, drop_on l.path steps (r ∷ q))
-      (row_same n at ks v rows r q _ _ _ apart keyed refl
-      (value_same (texts l.section.header ++ first_key ks) outer n at v _) (rows_same rows r q))
-
-  -- and elsewhere
   apart_after : (w steps p : Path) → begins w p ≡ false → begins p w ≡ false → begins p (w ++ steps) ≡ false
   apart_after (s ∷ w) steps (t ∷ p) not back = grind (arith, turn_eq s t, apart_after w steps p)
   apart_after w steps p not back = absurd (cc)
-
-  along_apart : (w p : Path) (f : Origins) → begins w p ≡ false → along w f p ≡ None
-  along_apart [] p f not = absurd (false≢true (sym not))
-  along_apart (s ∷ w) [] f not = refl
-  along_apart (s ∷ w) (t ∷ p) f not = grind (arith, turn_eq s t, along_apart w p f)
 
   pub rows_apart : (rows : Rows) (p : Path) → begins l.path p ≡ false → begins p l.path ≡ false
       → node_of_rows ls last l rows p ≡ None
@@ -191,14 +187,17 @@ module _ (ls : List Located) (last : Option ℕ) (l : Located) (n : ℕ) where
     | inr e ↦ inr (rw (turn_eq s t, e) refl)
   ]
 
+  rows_same : (rows : Rows) (p : Path) → begins p l.path ≡ false → rows_clash rows ≡ false → keyed_within rows ≡ true
+      → Same (node_of_rows ls last l rows p) (along l.path (rows_origins n rows) p)
+  rows_same no_rows p back apart keyed = rw along_is (grind arith)
+  rows_same (row ks at v rows) p back apart keyed =
+      row_same n at ks v rows l.path p _ _ _ back apart keyed refl
+      (value_same (texts l.section.header ++ first_key ks) _ n at v _) (rows_same rows p back)
+
   pub section_same : (p : Path) → begins p l.path ≡ false → rows_clash l.section.rows ≡ false
       → keyed_within l.section.rows ≡ true
       → Same (node_of_rows ls last l l.section.rows p) (along l.path (rows_origins n l.section.rows) p)
-  section_same p back apart keyed = elim (goes_from l.path p back) [
-    | inl x ↦ rw (x.2, along_on l.path (x.0 ∷ x.1) (rows_origins n l.section.rows))
-        (rows_same l.section.rows x.0 x.1 apart keyed)
-    | inr not ↦ rw (rows_apart l.section.rows p not back, along_apart l.path p (rows_origins n l.section.rows) not) refl
-  ]
+  section_same p = rows_same l.section.rows p
 
 pub sections_same : (ls : List Located) (last : Option ℕ) (n : ℕ) (later : List Located) (p : Path)
     → list_any (λ l. begins p l.path) later ≡ false → list_any (λ l. rows_clash l.section.rows) later ≡ false

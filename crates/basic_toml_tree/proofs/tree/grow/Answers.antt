@@ -1,5 +1,5 @@
-use Rattle.std.proofs.Common.{◌∙◌, sym, arith, rules}
-use Rattle.std.proofs.lemmas.List.{length-set, get_or-set_other}
+use Rattle.std.proofs.Common.{◌∙◌, ◌+◌, sym, arith, rules}
+use Rattle.std.proofs.lemmas.List.{length-set, drop-set-lt}
 use Rattle.basic_toml_tree.specs.FirstStop.{value}
 use Rattle.basic_toml_tree.specs.Resolve.{refused}
 use Rattle.basic_toml_tree.proofs.SectionsGrown.{want_of, stays_out, goes_on, resolved, begins, none_there}
@@ -38,7 +38,7 @@ loop-number-preserved c =
     (omega (arith, c.len-number-end.ensures, c.loop-number-test.true, c.loop-number.invariant.count))
     (search (rules, c.index_mut-section.ensures.value)) _ _ _
     (record { is_in = new.entered; grows = new.origins; marks = new.marks }) (length-set now n _)
-    (λ k d past. get_or-set_other now n k _ d (omega (arith, past)))
+    (drop-set-lt (n + 1) now n _ (omega arith))
     (rw (c.enter_section.ensures.at, c.enter_section.ensures.header) at c.in_ok-push.ensures.ok)
 
 pub returns-then-is_empty : goal.returns-then-is_empty

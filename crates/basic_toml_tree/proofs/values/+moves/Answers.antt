@@ -11,22 +11,19 @@ use Rattle.basic_toml_tree.proofs.values.+moves.Goals as goal
 
 pub into_elements-into_value-requires : goal.into_elements-into_value-requires
 into_elements-into_value-requires t c =
-    let start = c.into_iter-child-iterator.ensures.into_iter_gives ∙ c.drain-child-items.ensures in
-    let left = rw (c.in-Some.ensures.steps, start) at c.loop-child.invariant in
+    let left = rw c.in-Some.ensures.steps at c.loop-child.invariant in
     let smaller = items_size-rest _ child_data c.in-Some.child _ _ left in
     (omega (arith, smaller, ap data_size (child_item c.in-Some.child)), tt)
 
 pub into_many_entries-into_value-requires : goal.into_many_entries-into_value-requires
 into_many_entries-into_value-requires t c =
-    let start = c.into_iter-pair-iterator.ensures.into_iter_gives ∙ c.drain-pair-items.ensures in
-    let left = rw (c.in-Some.ensures.steps, start) at c.loop-pair.invariant.made in
+    let left = rw c.in-Some.ensures.steps at c.loop-pair.invariant.made in
     let smaller = members_size-rest _ child_pair c.in-Some.pair _ _ left in
     (omega (arith, smaller, ap data_size (child_item c.in-Some.pair.value)), tt)
 
 pub into_entries-into_value-requires : goal.into_entries-into_value-requires
 into_entries-into_value-requires t c =
-    let start = c.into_iter-pair-iterator.ensures.into_iter_gives.0 in
-    let left = rw (c.in-Some.ensures.steps.0, start) at c.loop-pair.invariant.made in
+    let left = rw c.in-Some.ensures.steps.0 at c.loop-pair.invariant.made in
     let smaller = members_size-rest _ child_pair c.in-Some.pair _ _ left in
     (omega (arith, smaller, ap data_size (child_item c.in-Some.pair.value)), tt)
 
@@ -51,8 +48,7 @@ into_table-returns-clause-table t c =
 
 pub into_tables-into_table-requires : goal.into_tables-into_table-requires
 into_tables-into_table-requires t c =
-    let start = c.into_iter-table-iterator.ensures.into_iter_gives ∙ c.drain-table-items.ensures in
-    let left = rw (c.in-Some.ensures.steps, start) at c.loop-table.invariant.made in
+    let left = rw c.in-Some.ensures.steps at c.loop-table.invariant.made in
     (omega (arith, items_size-rest _ table_data c.in-Some.table _ _ left), tt)
 
 pub into_array_of_tables-into_tables-requires : goal.into_array_of_tables-into_tables-requires

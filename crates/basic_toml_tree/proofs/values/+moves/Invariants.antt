@@ -38,24 +38,23 @@ decreases-into_table l = 3 * data_size (table_data l.table)
 -- what was passed is moved, in order, and the rest is left
 abbrev pub invariant-into_elements-loop-child : goal.invariant-into_elements-loop-child
 invariant-into_elements-loop-child l =
-    map view l.elements.items ++ map child_data l.child-iterator ≡ map child_data l.initial.child-iterator
+    map view l.elements.items ++ map child_data l.child-iterator ≡ map child_data l.fn.children.items
 
 -- and there is room for them
 abbrev pub invariant-into_tables-loop-table : goal.invariant-into_tables-loop-table
 invariant-into_tables-loop-table l = record {
-  made : map view l.elements.items ++ map table_data l.table-iterator ≡ map table_data l.initial.table-iterator;
+  made : map view l.elements.items ++ map table_data l.table-iterator ≡ map table_data l.fn.tables.items;
   room : vec_len l.elements + length l.table-iterator ≤ vec_capacity l.elements;
 }
 
 abbrev pub invariant-into_many_entries-loop-pair : goal.invariant-into_many_entries-loop-pair
 invariant-into_many_entries-loop-pair l = record {
-  made : map value_pair l.moved.items ++ map child_pair l.pair-iterator ≡ map child_pair l.initial.pair-iterator;
+  made : map value_pair l.moved.items ++ map child_pair l.pair-iterator ≡ map child_pair l.fn.pairs.items;
   room : vec_len l.moved + length l.pair-iterator ≤ vec_capacity l.moved;
 }
 
 abbrev pub invariant-into_entries-loop-pair : goal.invariant-into_entries-loop-pair
 invariant-into_entries-loop-pair l = record {
-  made : map value_pair l.moved.items ++ map child_pair l.pair-iterator.rest.items
-      ≡ map child_pair l.initial.pair-iterator.rest.items;
+  made : map value_pair l.moved.items ++ map child_pair l.pair-iterator.rest.items ≡ map child_pair l.fn.pairs.items;
   room : vec_len l.moved + length l.pair-iterator.rest.items ≤ vec_capacity l.moved;
 }
