@@ -38,7 +38,7 @@ use Rattle.basic_toml_tree.specs.declared.tree.Tree.{Tree}
 use Rattle.basic_toml_tree.specs.Resolve.{IsResolved, IsUnresolved, memory, refused, head, Resolves}
 use Rattle.basic_toml_tree.proofs.Origins.SectionsPlaceOrigins.{way_is, ComeFrom, none_come, more_come}
 use Rattle.basic_toml_tree.proofs.Nodes.RowNodesTold.{not_led}
-use Rattle.basic_toml_tree.proofs.SectionsStopped.{same_obstacle_fault, crossed_named, keyed_parts, level_there, as_put}
+use Rattle.basic_toml_tree.proofs.SectionsStopped.{crossed_named, keyed_parts, level_there, as_put}
 use Rattle.basic_toml_tree.proofs.TrieData.{table_trie_data}
 use Rattle.std.specs.Vec.{vec_len}
 use Rattle.basic_toml_read.proofs.RowsHaveKeys.{sections_have_keys}
@@ -90,11 +90,6 @@ entered_resolved list tree have keyed within =
 pub none_there : (o : Option ℕ) → ((at : ℕ) → o ≡ Some at → ⊥) → o ≡ None
 none_there o other = grind arith
 
--- sections and one more
-pub some_listed : (before : List Section) (s : Section) (later : List Section) → before ++ s ∷ later ≡ [] → ⊥
-some_listed [] s later e = cc
-some_listed (r ∷ before) s later e = cc
-
 -- memory apart, a clash is what is met, and its fault is that of it
 clash_is : (o : Option Obstacle) (c : Clash) (fault : Fault) (s : code.Section) → NamesObstacle o c
     → NamesClash s c fault
@@ -127,8 +122,10 @@ module _ {list : List Section} {headers : List (ℕ × List Key)} {root : Table}
     entered = record {
       stands = inl (taken list s _ _ have.entered.stands (rw goes.is_in.apart goes.is_in.gives));
       shallow =
+          let steps = steps_to s.is_array (texts s.header) (table_trie root) in
+          let is : 1 + steps ≡ suc steps = omega arith in
           rw (at_section list s [], deep_append, have.entered.shallow)
-          (grind (arith, level_there list s (table_trie root) have.entered.stands, rw (one_more _) at goes.is_in.fits));
+          (grind (arith, level_there list s (table_trie root) have.entered.stands, rw is at goes.is_in.fits));
     };
     heads = rw (pushed, have.heads, map-append) refl;
     origins = λ keyed.
@@ -140,9 +137,6 @@ module _ {list : List Section} {headers : List (ℕ × List Key)} {root : Table}
         (have.origins before) (rw (path, number) at goes.grows) (rw (path, number) at goes.marks));
   }
     where
-      one_more : (n : ℕ) → 1 + n ≡ suc n
-      one_more n = omega arith
-
       located_count : (before ss : List Section) → length (located_from before ss) ≡ length ss
       located_count before [] = refl
       located_count before (s ∷ ss) = ap suc (located_count (s ∷ before) ss)
@@ -154,7 +148,7 @@ module _ {list : List Section} {headers : List (ℕ × List Key)} {root : Table}
       → IsUnresolved (list ++ section_of s ∷ later) fault
   kept_out s later none c fault met now same header names =
       elim (clash_is (first_obstacle (section_of s) (table_trie root)) c fault now met names) [
-        | inl is ↦ rw is (memory (some_listed list (section_of s) later))
+        | inl is ↦ rw is (memory (λ none. omega (arith, simp length-append at (ap length none))))
         | inr x ↦ refused (section none (record {
           before = list;
           here = section_of s;
@@ -162,7 +156,7 @@ module _ {list : List Section} {headers : List (ℕ × List Key)} {root : Table}
           parts = refl;
           so_far = table_trie root;
           entered = have.entered;
-          stopped = (x.0, (x.1, x.2 ∙ same_obstacle_fault (section_of now) (section_of s) (rw header refl) same x.0));
+          stopped = (x.0, (x.1, grind (arith, header, same, x.2)));
         }))
       ]
 

@@ -16,7 +16,7 @@ use Rattle.basic_toml_grammar.specs.NamedClash.{section_faults, first_of_two}
 use Rattle.basic_toml_value.specs.Nesting.{nesting_limit}
 use Rattle.basic_toml_grammar.specs.Trie.{Trie, nothing, bare, put_sections, section_level_in}
 use Rattle.basic_toml_grammar.proofs.Naming.TrieStopsAreNamed.{trie_stops_named}
-use Rattle.basic_toml_grow.specs.Clash.{Obstacle, too_deep, in_the_way, obstacle_fault}
+use Rattle.basic_toml_grow.specs.Clash.{too_deep, in_the_way}
 use Rattle.basic_toml_tree.specs.FirstStop.{Stands, Entered, StopsSection, SectionsFault, value, section}
 use Rattle.basic_toml_grow.specs.Crossed.{first_crossed}
 use Rattle.basic_toml_grow.proofs.CrossedIsFault.{tells_sections}
@@ -31,11 +31,6 @@ pub keyed_parts : (earlier later : List Section) → all_keyed (earlier ++ later
 keyed_parts [] later keyed = (refl, keyed)
 keyed_parts (r ∷ earlier) later keyed =
     (grind (arith, keyed_parts earlier later), grind (arith, keyed_parts earlier later))
-
--- the fault of what is met is told by the header and the offset
-pub same_obstacle_fault : (r s : Section) → r.header ≡ s.header → r.at ≡ s.at → (x : Obstacle)
-    → obstacle_fault r x ≡ obstacle_fault s x
-same_obstacle_fault r s header at x = grind arith
 
 -- no such fault is want of memory
 pub stops_without_memory : (t : Trie) (s : Section) (fault : Fault) → StopsSection t s fault

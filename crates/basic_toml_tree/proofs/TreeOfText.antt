@@ -1,6 +1,6 @@
 -- The sections of a text go into a tree as they are read: what is known on the way, and how it ends.
 use Rattle.std.proofs.Common.{◌≡◌, inl, inr, ℕ, List, [], ◌∷◌, ◌++◌, refl, ap, sym, ◌∙◌, append_assoc, Bool, true}
-use Rattle.std.proofs.Common.{false, Option, MatchOption, Some, None, Result, Ok, Err, arith}
+use Rattle.std.proofs.Common.{false, Option, MatchOption, Some, None, Result, Ok, Err, arith, length, length-append}
 use Rattle.std.specs.Option.{option_or}
 use Rattle.std.specs.Result.{IsErrAnd}
 use Rattle.std.proofs.lemmas.List.{append_cancel_left}
@@ -33,7 +33,7 @@ use Rattle.basic_toml_tree.specs.FirstStop.{value}
 use Rattle.basic_toml_tree.specs.OfText.{IsListOf, IsTreeOf, AnswersText, Takes}
 use Rattle.basic_toml_tree.specs.Resolve.{refused}
 use Rattle.basic_toml_tree.specs.Rest.{TellsClash}
-use Rattle.basic_toml_tree.proofs.SectionsGrown.{HaveEntered, entered_resolved, kept_out, none_crossed, some_listed}
+use Rattle.basic_toml_tree.proofs.SectionsGrown.{HaveEntered, entered_resolved, kept_out, none_crossed}
 use Rattle.basic_toml_tree.proofs.SectionsStopped.{crossed_joined, keyed_parts}
 
 -- what is known before the next section is read
@@ -78,7 +78,7 @@ next_is_first reader list s later so_far is = at_place reader.place so_far
         (more, append_cancel_left list later (s ∷ more) (sym (rw append_assoc at same)))
 
     at_place : (p : Place) → IsBehind reader.text.now p (list ++ s ∷ []) → (more : List Section) × (later ≡ s ∷ more)
-    at_place Start so_far = absurd (some_listed list s [] so_far)
+    at_place Start so_far = absurd (omega (arith, simp length-append at (ap length so_far)))
     at_place (Behind next) so_far = joined (sections_of so_far.rest) (sym so_far.told ∙ is.is)
 
 -- it is read whether there is a next section
