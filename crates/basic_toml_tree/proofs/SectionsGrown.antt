@@ -9,9 +9,9 @@ use Rattle.basic_toml_grammar.specs.Sections.{Section, texts, Key}
 use Rattle.basic_toml_grammar.specs.IndexedPath.{located, located_after, located_from}
 use Rattle.basic_toml_grammar.specs.Document.{has_clash}
 use Rattle.basic_toml_grammar.specs.Entering.{all_keyed, all_keyed_within}
-use Rattle.basic_toml_grammar.specs.Trie.{Trie, nothing, walk, steps_to, put_section, put_sections}
+use Rattle.basic_toml_grammar.specs.Trie.{Trie, nothing, walk, steps_to}
 use Rattle.basic_toml_grow.specs.Headers.{IsIn}
-use Rattle.basic_toml_tree.specs.FirstStop.{Stands, Entered, section}
+use Rattle.basic_toml_tree.specs.FirstStop.{Entered, section}
 use Rattle.basic_toml_grow.proofs.HeadersInATrie.{Course, fresh}
 use Rattle.basic_toml_grammar.proofs.Tries.SectionsInATrie.{sections_put, sections_data}
 use Rattle.basic_toml_grammar.proofs.Tries.StepsArePaths.{at_section, put_append, deep_append}
@@ -36,21 +36,14 @@ use Rattle.basic_toml_grow.specs.Ways.{way, GrowsAlong, MarksTable}
 use Rattle.basic_toml_grow.proofs.Origins.OriginsSeen.{fresh_within}
 use Rattle.basic_toml_tree.specs.declared.tree.Tree.{Tree}
 use Rattle.basic_toml_tree.specs.Resolve.{IsResolved, IsUnresolved, memory, refused, head, Resolves}
-use Rattle.basic_toml_tree.proofs.Origins.SectionsPlaceOrigins.{way_is, ComeFrom, none_come, more_come}
+use Rattle.basic_toml_tree.proofs.Origins.SectionsPlaceOrigins.{way_is, ComeFrom, more_come}
 use Rattle.basic_toml_tree.proofs.Nodes.RowNodesTold.{not_led}
 use Rattle.basic_toml_tree.proofs.SectionsStopped.{crossed_named, keyed_parts, level_there, as_put}
 use Rattle.basic_toml_tree.proofs.TrieData.{table_trie_data}
 use Rattle.std.specs.Vec.{vec_len}
 use Rattle.basic_toml_read.proofs.RowsHaveKeys.{sections_have_keys}
 
--- One more section is taken as the tree takes it.
-taken : (earlier : List Section) (s : Section) (t u : Trie) → Stands earlier t → put_section s t ≡ Some u
-    → put_sections (earlier ++ s ∷ []) nothing ≡ Some u
-taken earlier s t u stands put =
-    let was = as_put stands in
-    let same = ap (λ (c : Course). c.entered) (was.alike s) in
-    rw (put_append earlier (s ∷ []) nothing, was.is, ← same, put) refl
-
+-- what is entered does not clash
 pub no_clash : {sections : List Section} {t : Trie} → Entered sections t → all_keyed sections ≡ true
     → has_clash sections ≡ false
 no_clash {sections} entered keyed =
@@ -67,7 +60,10 @@ pub none_entered : (headers : List (ℕ × List Key)) (root : Table) → headers
 none_entered headers root none is = record {
   entered = record { stands = inr (refl, is); shallow = refl };
   heads = none;
-  origins = λ keyed. none_come (table_within root).below (ap (λ w. w.below) (fresh_within root is));
+  origins = λ keyed. record {
+    rows = λ p not. ap (λ w. w.below p) (fresh_within root is);
+    headers = λ s p made. absurd (false≢true made);
+  };
 }
 
 pub entered_resolved : (list : List Section) (tree : Tree) → HaveEntered list tree.headers tree.root
@@ -120,7 +116,10 @@ module _ {list : List Section} {headers : List (ℕ × List Key)} {root : Table}
       → GoesIn s n root after → more ≡ headers ++ head s ∷ [] → HaveEntered (list ++ s ∷ []) more after
   more_entered s n after more counted goes pushed = record {
     entered = record {
-      stands = inl (taken list s _ _ have.entered.stands (rw goes.is_in.apart goes.is_in.gives));
+      stands =
+          let was = as_put have.entered.stands in
+          let same = ap (λ (c : Course). c.entered) (was.alike s) in
+          inl (rw (put_append list (s ∷ []) nothing, was.is, goes.is_in.apart, ← same, goes.is_in.gives) refl);
       shallow =
           let steps = steps_to s.is_array (texts s.header) (table_trie root) in
           let is : 1 + steps ≡ suc steps = omega arith in

@@ -5,7 +5,7 @@ use Rattle.std.proofs.Common.{inl, inr, ◌++◌, drop, length}
 use Rattle.std.specs.Prelude.{◌||◌, if◌then◌else◌, is_some, slice_get}
 use Rattle.std.specs.List.{list_any}
 use Rattle.std.specs.Option.{option_and_then}
-use Rattle.std.proofs.lemmas.Bool.{false≢true, or_left, or_right, cases_Bool, or_parts}
+use Rattle.std.proofs.lemmas.Bool.{false≢true, or_left, or_right, cases_Bool}
 use Rattle.basic_toml_value.specs.Data.{Data}
 use Rattle.basic_toml_grammar.specs.Sections.{KeyTexts, texts, Rows, no_rows, row, Raw, Elements, no_elements, element}
 use Rattle.basic_toml_grammar.specs.Steps.{Step, key, number, Path, step_eq, steps_of, begins}
@@ -190,11 +190,10 @@ pub sections_found : (n : ℕ) (ls : List Located) (p : Path) → list_any (λ l
     → any_leads (mentions ls) p ≡ true → Found (sections_origins n ls) p
 sections_found n [] p not e = e
 sections_found n (l ∷ ls) p not e =
-    let both = or_parts (begins p l.path) (list_any (λ l. begins p l.path) ls) not in
     let marks = section_mentions l.path l.section.rows in
     grind (
       arith,
       list_any-append (λ m. leads m.path m.value p) marks (mentions ls),
-      rows_found n l.path l.section.rows p both.0,
-      sections_found (suc n) ls p both.1,
+      rows_found n l.path l.section.rows p,
+      sections_found (suc n) ls p,
     )

@@ -119,8 +119,7 @@ no_numbers : (s : ℕ) (rows : Rows) (n : ℕ) (p : Path) → keyed_within rows 
     → rows_origins s rows (number n ∷ p) ≡ None
 no_numbers s no_rows n p keyed = refl
 no_numbers s (row [] at v rows) n p keyed = absurd (false≢true keyed)
-no_numbers s (row (k ∷ []) at v rows) n p keyed = no_numbers s rows n p (grind arith)
-no_numbers s (row (k ∷ l ∷ ks) at v rows) n p keyed = no_numbers s rows n p (grind arith)
+no_numbers s (row (k ∷ ks) at v rows) n p keyed = grind (arith, no_numbers s rows n p)
 
 mutual
   value_same : (keys : KeyTexts) (outer : Option ℕ) (s at : ℕ) (v : Raw) (p : Path) → value_clashes v ≡ false

@@ -23,9 +23,9 @@ use Rattle.basic_toml_tree.proofs.SectionsStopped.{as_put}
 use Rattle.std.specs.Prelude.{IsSomeAnd}
 use Rattle.std.specs.List.{list_any}
 use Rattle.std.specs.Option.{option_or}
-use Rattle.std.proofs.lemmas.Bool.{false≢true, cases_Bool}
+use Rattle.std.proofs.lemmas.Bool.{cases_Bool}
 use Rattle.std.proofs.lemmas.List.Folds.{list_any-append}
-use Rattle.basic_toml_grow.specs.Origins.{Origin, Origins, Within, no_origins, along, rows_origins}
+use Rattle.basic_toml_grow.specs.Origins.{Origin, Origins, Within, along, rows_origins}
 use Rattle.basic_toml_grow.proofs.Origins.OriginsSeen.{or_none}
 use Rattle.basic_toml_origin.specs.Anchor.{LeadsTo}
 use Rattle.basic_toml_tree.specs.Resolve.{ComesFromHeaders}
@@ -76,12 +76,6 @@ way_is earlier s t keyed stands =
 pub record ComeFrom (ls : List Located) (origins : Origins) : Type 0 where
   pub rows : (p : Path) → list_any (λ l. begins p l.path) ls ≡ false → origins p ≡ sections_origins 0 ls p
   pub headers : ComesFromHeaders ls origins
-
-pub none_come : (origins : Origins) → origins ≡ no_origins → ComeFrom [] origins
-none_come origins none = record {
-  rows = λ p not. ap (λ f. f p) none;
-  headers = λ s p made. absurd (false≢true made);
-}
 
 -- what the last section brings
 last_section : (n m : ℕ) (ls : List Located) (l : Located) (p : Path) → m ≡ n + length ls
