@@ -43,7 +43,7 @@ sections_fault_is_one sections _ _ keyed (section none a) (section none' b) =
     splits a.before b.before a.here b.here a.later b.later (sym a.parts ∙ b.parts) (λ e f.
     let x = as_put a.entered.stands in
     let y = as_put b.entered.stands in
-    cc (x.is, y.is, ap (λ (c : Course). c.met) (x.alike a.here), ap (λ (c : Course). c.met) (y.alike b.here)))
+    cc (x.1, y.1, ap (λ (c : Course). c.met) (x.3 a.here), ap (λ (c : Course). c.met) (y.3 b.here)))
     (λ more e. absurd (passed sections keyed none a b more e))
     (λ more e. absurd (passed sections keyed none b a more e))
 sections_fault_is_one sections _ _ keyed (value e) (value f) = cc

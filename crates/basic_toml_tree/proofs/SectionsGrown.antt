@@ -47,7 +47,7 @@ use Rattle.basic_toml_read.proofs.RowsHaveKeys.{sections_have_keys}
 pub no_clash : {sections : List Section} {t : Trie} → Entered sections t → all_keyed sections ≡ true
     → has_clash sections ≡ false
 no_clash {sections} entered keyed =
-    not-true (has_clash sections) (sym (sections_put sections keyed) ∙ ap is_some (as_put entered.stands).is)
+    not-true (has_clash sections) (sym (sections_put sections keyed) ∙ ap is_some (as_put entered.stands).1)
 
 -- These sections are entered in a table, their headers are kept, and what rows and headers made comes from them.
 pub record HaveEntered (list : List Section) (headers : List (ℕ × List Key)) (root : Table) : Type 0 where
@@ -74,7 +74,7 @@ entered_resolved list tree have keyed within =
     let put = as_put have.entered.stands in record {
       clash = clash;
       fits = fits_where_shallow nesting_limit list keyed within clash have.entered.shallow (omega arith);
-      grown = sym (table_trie_data tree.root) ∙ put.closes ∙ sections_data list put.trie put.is;
+      grown = sym (table_trie_data tree.root) ∙ put.2 ∙ sections_data list put.0 put.1;
       stands = have.entered.stands;
       heads = have.heads;
       within = within;
@@ -118,8 +118,8 @@ module _ {list : List Section} {headers : List (ℕ × List Key)} {root : Table}
     entered = record {
       stands =
           let was = as_put have.entered.stands in
-          let same = ap (λ (c : Course). c.entered) (was.alike s) in
-          inl (rw (put_append list (s ∷ []) nothing, was.is, goes.is_in.apart, ← same, goes.is_in.gives) refl);
+          let same = ap (λ (c : Course). c.entered) (was.3 s) in
+          inl (rw (put_append list (s ∷ []) nothing, was.1, goes.is_in.apart, ← same, goes.is_in.gives) refl);
       shallow =
           let steps = steps_to s.is_array (texts s.header) (table_trie root) in
           let is : 1 + steps ≡ suc steps = omega arith in

@@ -56,29 +56,20 @@ crossed_named sections at there =
     (flat_map repeated_faults_of sections ++ section_faults (located sections)) (dotted_fault at)
     (rw there at (tells_sections sections))
 
--- a list put into a trie: what sections grow from nothing takes one more as the trie does, and closes to the same
-pub record Put (sections : List Section) (t : Trie) : Type 0 where
-  pub trie : Trie
-  pub is : put_sections sections nothing ≡ Some trie
-  pub closes : closed (bare t) ≡ closed (bare trie)
-  pub alike : (s : Section)
-      → course s.is_array s.rows (texts s.header) 1 t ≡ course s.is_array s.rows (texts s.header) 1 trie
-
-pub as_put : {sections : List Section} {t : Trie} → Stands sections t → Put sections t
-as_put {t = t} (inl e) = record { trie = t; is = e; closes = refl; alike = λ s. refl }
-as_put (inr e) = record {
-  trie = nothing;
-  is = rw e.0 refl;
-  closes = rw e.1 refl;
-  alike = λ s. rw e.1 (course_fresh s.is_array s.rows (texts s.header) 1);
-}
+-- what a list grows from nothing: it closes to the same as the trie, and takes one more section as the trie does
+pub as_put : {sections : List Section} {t : Trie} → Stands sections t
+    → (u : Trie) × (put_sections sections nothing ≡ Some u) × (closed (bare t) ≡ closed (bare u))
+    × ((s : Section) → course s.is_array s.rows (texts s.header) 1 t ≡ course s.is_array s.rows (texts s.header) 1 u)
+as_put {t = t} (inl e) = (t, e, refl, λ s. refl)
+as_put (inr e) =
+    (nothing, rw e.0 refl, rw e.1 refl, λ s. rw e.1 (course_fresh s.is_array s.rows (texts s.header) 1))
 
 -- a section is on the level in the trie of those before it that its path has
 pub level_there : (earlier : List Section) (s : Section) (t : Trie) → Stands earlier t
     → section_level_in t s ≡ tree_level (located_after (reverse earlier) s)
 level_there earlier s t stands =
     let put = as_put stands in
-    rw (ap (λ (c : Course). c.steps) (put.alike s)) (level_is_tree_level earlier s put.trie put.is)
+    rw (ap (λ (c : Course). c.steps) (put.3 s)) (level_is_tree_level earlier s put.0 put.1)
 
 -- a section above the limit is one of those that are too deep by their paths
 deep_by_path : (earlier : List Section) (s : Section) (t : Trie) (later : List Section) → Entered earlier t
@@ -110,9 +101,9 @@ stop_is_named before s later t fault keyed none entered (in_the_way stop, (met, 
     let parts = keyed_parts before (s ∷ later) keyed in
     let here = (and_parts (is_keyed s) (all_keyed later) parts.1).0 in
     let put = as_put entered.stands in
-    let same = sym (ap (λ (c : Course). c.met) (put.alike s)) ∙ met in
-    inl (rw is (trie_stops_named before s later put.trie stop parts.0 here free put.is
-    (met_stops s.is_array s.rows (texts s.header) 1 put.trie stop same)))
+    let same = sym (ap (λ (c : Course). c.met) (put.3 s)) ∙ met in
+    inl (rw is (trie_stops_named before s later put.0 stop parts.0 here free put.1
+    (met_stops s.is_array s.rows (texts s.header) 1 put.0 stop same)))
 
 pub fault_is_named : (sections : List Section) (fault : Fault) → all_keyed sections ≡ true
     → SectionsFault sections fault → IsNamed sections fault

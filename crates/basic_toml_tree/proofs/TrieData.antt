@@ -1,10 +1,10 @@
 -- The data of an item's trie is that of the item; the data of the rows of a section, and of the table that they are.
-use Rattle.std.proofs.Common.{◌≡◌, ℕ, suc, true, false, List, [], ◌∷◌, ◌++◌, map, Some, None, Option, refl, ap}
-use Rattle.std.proofs.Common.{◌∙◌, subst, sym, rules, length}
+use Rattle.std.proofs.Common.{◌≡◌, ℕ, suc, true, false, List, [], ◌∷◌, ◌++◌, map, Some, None, refl, ap}
+use Rattle.std.proofs.Common.{◌∙◌, subst, sym, rules}
 use Rattle.std.proofs.lemmas.List.{map-append}
 use Rattle.std.proofs.lemmas.Simd.{map-map}
 use Rattle.basic_toml_value.specs.Data.{Data, item, items_of, members_of}
-use Rattle.basic_toml_grammar.specs.Standing.{Standing, table, array}
+use Rattle.basic_toml_grammar.specs.Standing.{table}
 use Rattle.basic_toml_grammar.specs.Growth as growth
 use Rattle.basic_toml_grammar.specs.Trie.{Trie, trie, bare_tries}
 use Rattle.basic_toml_read.specs.declared.section.Row.{Row}
@@ -28,11 +28,10 @@ items_numbers : (n : ℕ) (ts : List Trie) → growth.items_of (bare_tries (by_n
 items_numbers n [] = refl
 items_numbers n (t ∷ ts) = ap (λ ds. item (tree_data t) ds) (items_numbers (suc n) ts)
 
-numbers_data : (s : Option Standing) (ts : List Trie) (t : Trie)
-    → tree_data (trie s None (by_numbers 0 (ts ++ t ∷ [])))
+numbers_data : (ts : List Trie) (t : Trie) → tree_data (trie None None (by_numbers 0 (ts ++ t ∷ [])))
     ≡ Data.array (items_of (map tree_data ts ++ tree_data t ∷ []))
-numbers_data s [] t = refl
-numbers_data s (b ∷ ts) t =
+numbers_data [] t = refl
+numbers_data (b ∷ ts) t =
     ap Data.array (items_numbers 0 (b ∷ (ts ++ t ∷ [])) ∙ ap items_of (map-append tree_data (b ∷ ts) (t ∷ [])))
 
 -- what is to be shown of an item, a child and a table
@@ -71,18 +70,15 @@ item_agrees (Item-F.Section rs) = simp the_lemmas (section_agrees rs)
 item_agrees (Item-F.Inline e) = search (rules, the_lemmas, e.value.1)
 item_agrees (Item-F.Table e) = search (rules, the_lemmas, e.value.1)
 item_agrees (Item-F.Tables e) =
-    let ts : List Trie = map table_trie (map (λ e. e.0) e.value.0.items) in
     search (
       rules,
       the_lemmas,
-      numbers_data (Some (array (suc (length ts)))) ts (table_trie e.value.1.0),
+      numbers_data (map table_trie (map (λ e. e.0) e.value.0.items)) (table_trie e.value.1.0),
       all_agree table_trie table_data e.value.0.items,
       e.value.1.1,
     )
 item_agrees (Item-F.Sections tables) =
-    let ts : List Trie = map (λ t. rows_trie t.1) tables.value.0 in
-    simp the_lemmas (numbers_data (Some (array (suc (length tables.value.0)))) ts (rows_trie tables.value.1.1)
-    ∙ simp (map-map, section_agrees))
+    simp the_lemmas (numbers_data _ (rows_trie tables.value.1.1) ∙ simp (map-map, section_agrees))
 item_agrees y = search (rules, the_lemmas)
 
 item_case : (x : Item-F Item Child Table) (y : Item-F (With OfItem) (With OfChild) (With OfTable))

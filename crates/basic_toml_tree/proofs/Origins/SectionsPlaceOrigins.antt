@@ -70,7 +70,7 @@ put_way earlier s t keyed e =
 pub way_is : (earlier : List Section) (s : Section) (t : Trie) → all_keyed earlier ≡ true → Stands earlier t
     → way s.is_array (texts s.header) t ≡ (located_after (reverse earlier) s).path
 way_is earlier s t keyed stands =
-    let put = as_put stands in ap (λ (c : Course). c.way) (put.alike s) ∙ put_way earlier s put.trie keyed put.is
+    let put = as_put stands in ap (λ (c : Course). c.way) (put.3 s) ∙ put_way earlier s put.0 keyed put.1
 
 -- what is known of the origins in a tree after some sections
 pub record ComeFrom (ls : List Located) (origins : Origins) : Type 0 where
