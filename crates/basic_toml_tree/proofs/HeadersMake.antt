@@ -94,10 +94,6 @@ mapped_any : {A B : Type 0} (f : B → Bool) (g : A → B) (xs : List A)
 mapped_any f g [] = refl
 mapped_any f g (x ∷ xs) = rw (mapped_any f g xs) refl
 
-same_paths : (f : Path → Bool) (ss : List Section)
-    → list_any (λ l. f l.path) (located ss) ≡ list_any (λ l. f (path_of l)) (placed ss)
-same_paths f ss = simp mapped_any at (ap (list_any f) (paths_agree ss))
-
 -- it stays whatever comes later, nothing else leaves it, and no row does
 module _ (a : Bool) (p : Path) where
   stay : (st ms after : List Mark) → take_all st ms ≡ Some after
@@ -163,7 +159,8 @@ module _ (ss : List Section) (st : List Mark) (e : enter_all ss [] ≡ Some st) 
     told : list_any (λ l. goes a p l.path) (located ss) ≡ lasts a (standing_at st p)
     told =
         let passes = list_any (λ l. goes a p (path_of l)) (placed ss) in
-        same_paths (goes a p) ss ∙ same_truth passes (lasts a (standing_at st p)) (λ any.
+        let same = simp mapped_any at (ap (list_any (goes a p)) (paths_agree ss)) in
+        same ∙ same_truth passes (lasts a (standing_at st p)) (λ any.
         let l = any_of (λ l. goes a p (path_of l)) (placed ss) any in
         let m = any_of (at (leaves a) p) (marks l.0) (here l.0 ∙ l.2) in
         stands m.0.kind l.0 l.1 m.1 m.2) (λ stood.

@@ -70,25 +70,17 @@ pub refused_rows : {A E : Type 0} (rows : List Row) (d : Data) (result : Result 
     → are_few_simple 0 rows ≡ true → (length rows == 0) ≡ false → IfErr result (λ e. HoldsAny d)
 refused_rows rows d result is simple some = refused row_pair rows d result (is ∙ few_data rows simple) some
 
--- the data of an array of plain values
+-- the data of items: arrays and tables of plain values, arrays of other items, and of tables
 pub plain_item : (es : List Element) → data_of (Plain es) ≡ finished (plain_array es)
 plain_item es = search (rules, the_lemmas)
 
--- and what it is seen as
-pub plain_seen : (elements : Vec values.Value Global) (es : List Element)
-    → map view elements.items ≡ map element_data es → view (values.Array elements) ≡ data_of (Plain es)
-plain_seen elements es same = array_seen elements ∙ rw (same, plain_item es, elements_finished es) refl
-
--- the data of an inline table of plain values
 pub rows_item : (rs : List Row) → data_of (items.Rows rs) ≡ rows_data rs
 rows_item rs = search (rules, the_lemmas)
 
--- the data of an array of other items
 pub children_data : (children : Vec Child Global)
     → data_of (Array children) ≡ Data.array (items_of (map child_data children.items))
 children_data children = search (rules, the_lemmas)
 
--- the data of an array of tables
 pub tables_data : (tables : Box (Vec Table Global × Table) Global)
     → data_of (Tables tables)
     ≡ Data.array (items_of (map table_data tables.value.0.items ++ table_data tables.value.1 ∷ []))
@@ -96,6 +88,11 @@ tables_data tables = search (rules, the_lemmas)
 
 pub sections_item : (tables : Box SectionTables Global) → data_of (Sections tables) ≡ sections_data tables.value
 sections_item tables = search (rules, the_lemmas)
+
+-- what an array of plain values is seen as
+pub plain_seen : (elements : Vec values.Value Global) (es : List Element)
+    → map view elements.items ≡ map element_data es → view (values.Array elements) ≡ data_of (Plain es)
+plain_seen elements es same = array_seen elements ∙ rw (same, plain_item es, elements_finished es) refl
 
 -- copies of the same pairs have the same keys
 pub keys_copied : (copies : List (Pair values.Value)) (pairs : List (Pair Child)) (old : List (List ℕ × Child))

@@ -39,7 +39,7 @@ stops_without_memory t s fault (met, (first, same)) is = grind (arith, ap (λ (f
 
 -- the first faults come first
 first_contained : (a b : List Fault) (f : Fault) → Contains a f → Contains (first_of_two a b) f
-first_contained [] b f c = let h : c.0 < 0 = c.1 in absurd (omega arith)
+first_contained [] b f c = absurd (omega (arith, c.1))
 first_contained (g ∷ a) b f c = c
 
 -- the first value of sections that a row goes on from, or else that of the sections after them

@@ -89,8 +89,8 @@ among_branches (number n) bs = slice_get (listed (items_of bs)) n
 
 by_step : (bs : Branches) (s : Step) (p : Path) → is_some (data_along (s ∷ p) (closed_branches bs)) ≡ true
     → is_some (option_and_then (data_along p) (among_branches s bs)) ≡ true
-by_step no_branches s p e = grind arith
 by_step (branch t g bs) s p e = grind arith
+by_step no_branches s p e = grind arith
 
 mutual
   closed_reached : (g : Growth) (p : Path) → InTurn g → is_some (data_along p (closed g)) ≡ true → reaches g p ≡ true
@@ -125,9 +125,8 @@ abbrev pub any_leads : List Mention → Path → Bool
 any_leads ms p = list_any (λ m. leads m.path m.value p) ms
 
 shoot_leads : (w : Path) (v : Option Data) (p : Path) → reaches (shoot w v) p ≡ true → leads w v p ≡ true
-shoot_leads [] v p e = grind arith
-shoot_leads (t ∷ w) v [] e = grind arith
 shoot_leads (t ∷ w) v (s ∷ p) e = grind (arith, turn_eq t s, shoot_leads w v p)
+shoot_leads w v p e = grind arith
 
 mutual
   grow_leads : (g : Growth) (w : Path) (v : Option Data) (p : Path) → reaches (grow g w v) p ≡ true
