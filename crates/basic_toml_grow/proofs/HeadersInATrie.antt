@@ -5,7 +5,7 @@ use Rattle.std.specs.Option.{option_or}
 use Rattle.std.proofs.lemmas.Bool.{cases_lt}
 use Rattle.basic_toml_value.specs.Nesting.{nesting_limit}
 use Rattle.basic_toml_value.specs.Data.{Data}
-use Rattle.basic_toml_grammar.specs.Sections.{KeyTexts, Rows, no_rows}
+use Rattle.basic_toml_grammar.specs.Sections.{KeyTexts, Rows}
 use Rattle.basic_toml_grammar.specs.Steps.{Path, key, number}
 use Rattle.basic_toml_grammar.specs.Standing as standing
 use Rattle.basic_toml_grammar.specs.Stops.{at_header}
@@ -99,19 +99,6 @@ pub course_fresh : (a : Bool) (rows : Rows) (keys : KeyTexts) (l : ℕ)
 course_fresh true rows (k ∷ []) l = refl
 course_fresh false rows (k ∷ []) l = refl
 course_fresh _ rows _ l = refl
-
-pub walk_fresh : (a : Bool) (rows : Rows) (keys : KeyTexts) → walk a rows keys fresh ≡ walk a rows keys nothing
-walk_fresh a rows keys = ap (λ (c : Course). c.entered) (course_fresh a rows keys 0)
-
-pub steps_fresh : (a : Bool) (keys : KeyTexts) → steps_to a keys fresh ≡ steps_to a keys nothing
-steps_fresh a keys = ap (λ (c : Course). c.steps) (course_fresh a no_rows keys 0)
-
-pub met_fresh : (a : Bool) (rows : Rows) (keys : KeyTexts) (l : ℕ)
-    → keys_obstacle a rows keys l fresh ≡ keys_obstacle a rows keys l nothing
-met_fresh a rows keys l = ap (λ (c : Course). c.met) (course_fresh a rows keys l)
-
-pub way_fresh : (a : Bool) (keys : KeyTexts) → way a keys fresh ≡ way a keys nothing
-way_fresh a keys = ap (λ (c : Course). c.way) (course_fresh a no_rows keys 0)
 
 -- a header's step at a key of a table
 pub course_through : (a : Bool) (rows : Rows) (k : List ℕ) (keys : KeyTexts) (l : ℕ) (p n d : Bool) (ts : Tries)
