@@ -1,7 +1,6 @@
 -- What a node keeps of the keys of headers and rows that lead to it.
 use Rattle.std.proofs.Common.{arith, ◌≡◌, ◌⊎◌, inl, inr, ◌<◌, ℕ, true, false, List, [], ◌∷◌, ◌++◌, length, map, take}
-use Rattle.std.proofs.Common.{Some, refl, ap, sym, ◌∙◌, get_or}
-use Rattle.std.specs.Prelude.{slice_get, IfSome}
+use Rattle.std.proofs.Common.{Some, refl, ap, sym, ◌∙◌, get_or, slice_get, IfSome}
 use Rattle.std.proofs.lemmas.List.{length-map, get_or-take}
 use Rattle.std.proofs.lemmas.Option.{IfSome_then, get_or_from_slice_get}
 use Rattle.basic_toml_grammar.specs.IndexedPath.{Located, located}
@@ -60,8 +59,8 @@ compare (s ∷ w) y (t ∷ v) z same =
     let first : s ≡ t = cc in
     let rest : w ++ y ≡ v ++ z = cc in
     elim (compare w y v z rest) [
-      | inl b ↦ inl (b.0, ap (λ t. t ∷ v) (sym first) ∙ ap (λ p. s ∷ p) b.1, b.2)
-      | inr b ↦ inr (b.0, ap (λ s. s ∷ w) first ∙ ap (λ p. t ∷ p) b.1, b.2)
+      | inl b ↦ inl (b.0, cc (first, b.1), b.2)
+      | inr b ↦ inr (b.0, cc (first, b.1), b.2)
     ]
 
 -- The last step of a path is this one, or stands further on.
@@ -69,16 +68,14 @@ abbrev EndsAt : Path → Step → Path → Step → Type 0
 EndsAt p s q t = ((p ≡ q) × (s ≡ t)) ⊎ ((more : Path) × (p ≡ q ++ t ∷ more))
 
 last_step : (p q : Path) (s t : Step) (r : Path) → p ++ s ∷ [] ≡ q ++ t ∷ r → EndsAt p s q t
-last_step p q s t r same = elim (compare p (s ∷ []) q (t ∷ r) same) [ inl on ↦ here on | inr on ↦ further on ]
-  where
-    here : Beyond p (s ∷ []) q (t ∷ r) → EndsAt p s q t
-    here ([], at, rest) = let one : s ≡ t = cc in inl (sym (at ∙ append_none p), one)
-    here (u ∷ [], at, rest) = absurd (cc)
-    here (u ∷ v ∷ b, at, rest) = absurd (cc)
-
-    further : Beyond q (t ∷ r) p (s ∷ []) → EndsAt p s q t
-    further ([], at, rest) = let one : s ≡ t = cc in inl (at ∙ append_none q, one)
-    further (u ∷ b, at, rest) = let one : t ≡ u = cc in inr (b, at ∙ ap (λ u. q ++ u ∷ b) (sym one))
+last_step [] [] s t r same = inl (refl, cc)
+last_step [] (u ∷ []) s t r same = absurd (cc)
+last_step [] (u ∷ v ∷ q) s t r same = absurd (cc)
+last_step (u ∷ p) [] s t r same = let one : u ≡ t = cc in inr (p, ap (λ u. u ∷ p) one)
+last_step (u ∷ p) (v ∷ q) s t r same =
+    let one : u ≡ v = cc in
+    let rest : p ++ s ∷ [] ≡ q ++ t ∷ r = cc in
+    elim (last_step p q s t r rest) [ inl e ↦ inl (cc (one, e.0), e.1) | inr e ↦ inr (e.0, cc (one, e.1)) ]
 
 -- a node that hands on what is kept keeps the same row
 row_on : (from node : Node) → HandsOn from node.trail → (tree : Tree) (n : ℕ) (keys : KeyTexts) (k : List ℕ)

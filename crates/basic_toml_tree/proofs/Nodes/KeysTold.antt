@@ -1,12 +1,12 @@
 -- The keys that lead to a node, as the tree has them and as the section list foretells them.
-use Rattle.std.proofs.Common.{◌≡◌, inl, inr, ℕ, zero, suc, true, false, List, [], ◌∷◌, ◌++◌, length, map, take}
-use Rattle.std.proofs.Common.{get_or, Option, Some, None, refl, ap, sym, ◌∙◌, arith, length-append, append_assoc}
-use Rattle.std.specs.Prelude.{◌==◌, slice_get, IfSome, IsSomeAnd}
-use Rattle.std.proofs.lemmas.Bool.{false≢true, and_parts, cases_Bool}
+use Rattle.std.proofs.Common.{◌≡◌, inl, inr, ℕ, zero, suc, true, false, List, [], ◌∷◌, ◌++◌, length, map, take, get_or}
+use Rattle.std.proofs.Common.{Option, Some, refl, ap, sym, ◌∙◌, arith, length-append, append_assoc, ◌==◌, IfSome, ◌≤◌}
+use Rattle.std.proofs.Common.{slice_get, is_some, bytes_eq}
+use Rattle.std.proofs.lemmas.Bool.{false≢true, and_parts, cases_Bool, or_parts}
 use Rattle.std.proofs.lemmas.List.{append_cancel_left, take_all}
-use Rattle.std.proofs.lemmas.Option.{IfSome_then}
+use Rattle.std.proofs.lemmas.Option.{IfSome_then, option_and_then_some}
 use Rattle.std.proofs.lemmas.Slice.Eq.{bytes_eq-Decides}
-use Rattle.basic_toml_grammar.specs.Sections.{KeyTexts, texts, Section}
+use Rattle.basic_toml_grammar.specs.Sections.{KeyTexts, texts, Section, Rows, no_rows, row}
 use Rattle.basic_toml_grammar.specs.Steps.{Step, key, number, Path, begins, steps_of, keys_of}
 use Rattle.basic_toml_grammar.specs.IndexedPath.{Located, located_after, located_from, located}
 use Rattle.basic_toml_grammar.specs.Nodes as grammar
@@ -16,30 +16,138 @@ use Rattle.basic_toml_tree.specs.declared.tree.Tree.{Tree}
 use Rattle.basic_toml_tree.specs.declared.node.Node.{Node}
 use Rattle.basic_toml_grow.specs.declared.item.Item.{Item, out-Item}
 use Rattle.basic_toml_grow.specs.declared.item.Item.TheOpen.{Item-F}
-use Rattle.basic_toml_grow.specs.declared.item.Child.{Child}
+use Rattle.basic_toml_grow.specs.Item.{child_trie}
+use Rattle.basic_toml_grow.specs.declared.item.Child.{Child, out-Child}
 use Rattle.basic_toml_grow.specs.declared.item.Table.{Table, out-Table}
 use Rattle.basic_toml_tree.specs.declared.spot.Spot.{Spot}
 use Rattle.basic_toml_tree.specs.declared.spot.Spot.TheVariants as spots
 use Rattle.basic_toml_tree.specs.declared.trail.Trail.{Trail}
-use Rattle.basic_toml_grow.specs.Origins.{Origin, Origins, child_origins}
+use Rattle.basic_toml_grow.specs.Origins.{child_origins, along, rows_origins}
 use Rattle.basic_toml_tree.proofs.Nodes.NodesCome.{child_bears}
-use Rattle.basic_toml_tree.proofs.Nodes.RowKeys.{GivenBy, sections_give}
+use Rattle.basic_toml_tree.proofs.Nodes.NodesOfValues.{some_and, one_of, in_value, if_there, or_some}
 use Rattle.basic_toml_tree.proofs.Nodes.OneSection.{entry_at}
 use Rattle.basic_toml_tree.proofs.Nodes.RowNodesTold.{no_clash, not_led, rows_free, rows_keyed, some_both}
 use Rattle.basic_toml_tree.specs.Headers.{keys_at}
 use Rattle.basic_toml_tree.specs.HeaderTables.{table_of}
-use Rattle.basic_toml_tree.specs.Origin.{header_of, spot_is_made, spot_section, item_section, holds_tables}
-use Rattle.basic_toml_tree.specs.Origin.{keys_of as kept_keys, trail_keys}
+use Rattle.basic_toml_tree.specs.Origin.{header_of, spot_is_made, spot_section, item_section, holds_tables, trail_keys}
+use Rattle.basic_toml_tree.specs.Origin.{keys_of as kept_keys}
 use Rattle.basic_toml_origin.specs.Anchor.{LeadsTo}
-use Rattle.basic_toml_tree.specs.Resolve.{IsResolved, ComesFromHeaders, head}
-use Rattle.basic_toml_tree.specs.Stands.{tree_trie, is_root, StandsAt, IsEntry, IsNodeAt, tree_origins}
-use Rattle.basic_toml_tree.specs.Keys.{header_at, Leads, KeepsHeader, CountsKeys, KeysLead, CountsOn, KeepsRow}
-use Rattle.basic_toml_tree.specs.Keys.{RowsLead}
+use Rattle.basic_toml_tree.specs.Resolve.{IsResolved, head}
+use Rattle.basic_toml_tree.specs.Stands.{tree_trie, is_root, StandsAt, IsNodeAt, tree_origins, ComesFrom, IsBelow}
+use Rattle.basic_toml_tree.specs.Keys.{header_at, Leads, KeepsHeader, CountsKeys, KeysLead, CountsOn, KeepsRow, GoesOn}
+use Rattle.basic_toml_tree.specs.Keys.{RowsLead, BeginsRow, HandsOn}
 use Rattle.basic_toml_tree.proofs.Nodes.KeysLead.{KeepsKeys, made_before, rows_on}
-use Rattle.basic_toml_tree.specs.Nodes.{node_data}
-use Rattle.basic_toml_tree.proofs.Nodes.FewKeys.{few_keys}
-use Rattle.basic_toml_tree.proofs.Nodes.MadeNodes.{made_in_trie, spot_made}
+use Rattle.basic_toml_tree.specs.Data.{child_data, table_data}
+use Rattle.basic_toml_tree.specs.Nodes.{node_data, data_among, listed}
+use Rattle.basic_toml_tree.specs.Outer.{kept_below}
+use Rattle.basic_toml_tree.proofs.Nodes.MadeNodes.{made_at, made_in_trie, spot_made}
 use Rattle.basic_toml_tree.proofs.Nodes.NodesStand.{Further, no_root}
+use Rattle.std.specs.List.{list_any, list_all}
+use Rattle.basic_toml_grammar.specs.RowClash.{rows_clash}
+use Rattle.basic_toml_grammar.specs.Entering.{keyed_within}
+use Rattle.basic_toml_grammar.specs.NamedClash.{first_key}
+use Rattle.basic_toml_grammar.specs.Nodes.{node_of_rows, node_of_sections}
+use Rattle.basic_toml_grammar.proofs.Clash.StepTestsDecide.{step_is}
+use Rattle.basic_toml_tree.proofs.Origins.RowsAreNodes.{begins_on, goes_from, rows_apart, section_same}
+use Rattle.basic_toml_value.specs.Data.{Data, Items, no_items, item, Members, no_members, member}
+use Rattle.basic_toml_value.specs.Nesting.{nesting_limit}
+use Rattle.basic_toml_grammar.specs.Depth.{depth, depth_of_items, depth_of_members}
+use Rattle.basic_toml_tree.specs.Paths.{data_by, data_along}
+
+keys_within : (p : Path) → length (keys_of p) ≤ length p
+keys_within [] = omega arith
+keys_within (s ∷ p) = grind (arith, keys_within p)
+
+-- what is below data is less deep
+item_depth : (ds : Items) (n : ℕ) (d : Data) → slice_get (listed ds) n ≡ Some d → depth d ≤ depth_of_items ds
+item_depth no_items n d there = absurd (cc)
+item_depth (item e ds) zero d there = let same : e ≡ d = cc in omega (arith, ap depth same)
+item_depth (item e ds) (suc n) d there = omega (arith, item_depth ds n d there)
+
+member_depth : (ms : Members) (k : List ℕ) (d : Data) → data_among ms k ≡ Some d → depth d ≤ depth_of_members ms
+member_depth no_members k d there = absurd (cc)
+member_depth (member l e ms) k d there = elim (cases_Bool (bytes_eq k l)) [
+  | inl here ↦ let same : e ≡ d = cc (rw here at there) in omega (arith, ap depth same)
+  | inr other ↦ omega (arith, member_depth ms k d (rw other at there))
+]
+
+less_deep : (s : Step) (d e : Data) → data_by s d ≡ Some e → suc (depth e) ≤ depth d
+less_deep (key k) (Data.table ms) e there = omega (arith, member_depth ms k e there)
+less_deep (number n) (Data.array ds) e there = omega (arith, item_depth ds n e there)
+less_deep s d e there = absurd (cc)
+
+as_deep : (p : Path) (d e : Data) → data_along p d ≡ Some e → length p ≤ depth d
+as_deep [] d e there = omega arith
+as_deep (s ∷ p) d e there =
+    option_and_then_some (data_along p) (data_by s d) e there
+    (λ x is on. omega (arith, less_deep s d x is, as_deep p x e on))
+
+pub few_keys : (sections : List Section) (tree : Tree) → IsResolved sections tree → (p : Path) (d : Data)
+    → data_along p (table_data tree.root) ≡ Some d → length (keys_of p) ≤ nesting_limit
+few_keys sections tree resolved p d there =
+    omega (arith, as_deep p (table_data tree.root) d there, keys_within p, ap depth resolved.grown, resolved.fits)
+
+-- a row below its section's table
+module _ (ls : List Located) (last : Option ℕ) (l : Located) (r : Step) (q : Path) where
+  abbrev FromRow : grammar.Node → Type 0
+  FromRow m = (k : List ℕ) × (r ≡ key k) × (m.key_path ≡ texts l.section.header ++ k ∷ [])
+
+  rows_keep : (rows : Rows) → keyed_within rows ≡ true
+      → IfSome (node_of_rows ls last l rows (l.path ++ r ∷ q)) FromRow
+  rows_keep no_rows keyed = tt
+  rows_keep (row [] at v rows) keyed = absurd (false≢true keyed)
+  rows_keep (row (k ∷ ks) at v rows) keyed =
+      let steps = steps_of (texts (k ∷ ks)) in
+      let path = l.path ++ steps in
+      let p = l.path ++ r ∷ q in
+      one_of (begins path p) (begins p path) _ _ FromRow (λ e.
+      let is = sym (step_is (key k.text) r (and_parts _ _ (sym (begins_on l.path steps (r ∷ q)) ∙ e)).0) in
+      in_value (texts l.section.header ++ first_key (k ∷ ks)) FromRow (λ outer at v. (k.text, is, refl))
+      (λ outer at. (k.text, is, refl)) _ at v _)
+      (λ e. (k.text, step_is r (key k.text) (and_parts _ _ (sym (begins_on l.path (r ∷ q) steps) ∙ e)).0, refl))
+      (rows_keep rows (and_parts _ _ keyed).1)
+
+-- the first key of the row of a section that leads to a path, of which the section tells
+pub record FromSection (l : Located) (p : Path) (m : grammar.Node) : Type 0 where
+  pub first : List ℕ
+  pub others : Path
+  pub path : p ≡ l.path ++ key first ∷ others
+  pub keys : m.key_path ≡ texts l.section.header ++ first ∷ []
+  pub told : is_some (along l.path (rows_origins 0 l.section.rows) p) ≡ true
+
+-- a node that the section with some number gives
+abbrev pub GivenBy : List Located → Path → grammar.Node → Type 0
+GivenBy later p m = (n : ℕ) × (l : Located) × (slice_get later n ≡ Some l) × FromSection l p m
+
+pub sections_give : (ls : List Located) (last : Option ℕ) (later : List Located) (p : Path)
+    → list_any (λ l. begins p l.path) later ≡ false → list_any (λ l. rows_clash l.section.rows) later ≡ false
+    → list_all (λ l. keyed_within l.section.rows) later ≡ true
+    → IfSome (node_of_sections ls last later p) (GivenBy later p)
+sections_give ls last [] p back apart keyed = tt
+sections_give ls last (l ∷ later) p back apart keyed =
+    let b = or_parts _ _ back in
+    let a = or_parts (rows_clash l.section.rows) (list_any (λ l. rows_clash l.section.rows) later) apart in
+    let k = and_parts _ _ keyed in
+    let node = node_of_rows ls last l l.section.rows p in
+    or_some node (node_of_sections ls last later p) (GivenBy (l ∷ later) p) (elim (goes_from ls last l 0 l.path p b.0) [
+      | inl x ↦ some_both node (rw (← (x.2)) at (rows_keep ls last l x.0 x.1 l.section.rows k.0))
+          (if_there node (λ m is. grind (arith, is, section_same ls last l 0 p b.0 a.0 k.0)))
+          (λ m row told. (
+            0,
+            l,
+            refl,
+            record {
+              first = row.0;
+              others = x.1;
+              path = x.2 ∙ ap (λ r. l.path ++ r ∷ x.1) row.1;
+              keys = row.2;
+              told = told;
+            },
+          ))
+      | inr not ↦ rw (rows_apart ls last l 0 l.section.rows p not b.0) tt
+    ])
+    (IfSome_then (node_of_sections ls last later p) (sections_give ls last later p b.1 a.1 k.1)
+    (λ m given. (suc given.0, given.1, given.2, given.3)))
 
 -- the keys of a header's path are the header
 located_keys : (s : Section) (before : List Section) → keys_of (located_after before s).path ≡ texts s.header
@@ -78,15 +186,12 @@ header_is sections tree resolved n l there = rw (resolved.heads) (located_at [] 
 -- a section whose header leads to a path begins with its keys
 header_leads : (sections : List Section) (tree : Tree) → IsResolved sections tree → (n : ℕ) (p : Path)
     → LeadsTo (located sections) n p → Leads tree (keys_of p) n
-header_leads sections tree resolved n p leads = go (slice_get (located sections) n) refl leads
-  where
-    go : (o : Option Located) → slice_get (located sections) n ≡ o → IsSomeAnd o (λ l. begins p l.path ≡ true)
-        → Leads tree (keys_of p) n
-    go None is leads = absurd leads
-    go (Some l) is leads = rw ((header_is sections tree resolved n l is).0) (begins_keys p l.path leads)
+header_leads sections tree resolved n p leads =
+    let l = some_and (slice_get (located sections) n) leads in
+    rw ((header_is sections tree resolved n l.0 l.1).0) (begins_keys p l.0.path l.2)
 
 -- a node one step on from a table, where headers made something
-pub made_below : (sections : List Section) (tree : Tree) → IsResolved sections tree → (p : Path) (k : List ℕ)
+made_below : (sections : List Section) (tree : Tree) → IsResolved sections tree → (p : Path) (k : List ℕ)
     (node : Node) → Further tree (p ++ key k ∷ []) node
     → grammar.is_made (located sections) (p ++ key k ∷ []) ≡ true → spot_is_made 1 node.spot ≡ true
 made_below sections tree resolved p k node there made =
@@ -101,7 +206,7 @@ kept_first : (from : Node) (tree : Tree) (p : Path) → from.tree.now ≡ tree �
 kept_first from tree p within count kept =
     rw (within, count) (first_are (keys_of p) (header_at tree kept.section) kept.leads)
 
-pub has_section : (spot : Spot) → spot_is_made 1 spot ≡ true → (n : ℕ) × (spot_section spot ≡ Some n)
+has_section : (spot : Spot) → spot_is_made 1 spot ≡ true → (n : ℕ) × (spot_section spot ≡ Some n)
 has_section (spots.Table b) made = ((out-Table (table_of b)).section, rw made refl)
 has_section (spots.Item b) made = go (out-Item b.now) made
   where
@@ -111,22 +216,19 @@ has_section (spots.Item b) made = go (out-Item b.now) made
     go x made = absurd (false≢true made)
 has_section (spots.Plain b) made = absurd (false≢true made)
 
-abbrev pub HasHeader : List Located → Path → Origin → Type 0
-HasHeader ls p o = (o.made ≡ true) × LeadsTo ls o.section p
+-- the section of what headers made, whose header leads there
+pub made_leads : (sections : List Section) (tree : Tree) → IsResolved sections tree → (p : Path) → is_root p ≡ false
+    → grammar.is_made (located sections) p ≡ true → (spot : Spot) → spot_is_made 1 spot ≡ true
+    → IfSome (tree_origins tree p) (λ o. IfSome (spot_section spot) (λ n. o.section ≡ n))
+    → (n : ℕ) × (spot_section spot ≡ Some n) × LeadsTo (located sections) n p
+made_leads sections tree resolved [] below made spot own marked = absurd (false≢true (sym below))
+made_leads sections tree resolved (s ∷ p) below made spot own marked =
+    let n = has_section spot own in
+    let x = some_and (tree_origins tree (s ∷ p)) (resolved.marks s p made) in
+    let same : x.0.section ≡ n.0 = rw (x.1, n.1) at marked in
+    (n.0, n.1, rw (← same) x.2.1)
 
-pub marked_at : (ls : List Located) (origins : Origins) → ComesFromHeaders ls origins → (p : Path) → is_root p ≡ false
-    → grammar.is_made ls p ≡ true → IsSomeAnd (origins p) (HasHeader ls p)
-marked_at ls origins marks [] below made = absurd (false≢true (sym below))
-marked_at ls origins marks (s ∷ p) below made = marks s p made
-
-pub section_leads : (ls : List Located) (p : Path) (spot : Spot) (n : ℕ) → spot_section spot ≡ Some n
-    → (o : Option Origin) → IsSomeAnd o (HasHeader ls p)
-    → IfSome o (λ o. IfSome (spot_section spot) (λ n. o.section ≡ n)) → LeadsTo ls n p
-section_leads ls p spot n is None has marked = absurd has
-section_leads ls p spot n is (Some o) has marked =
-    let same : o.section ≡ n = rw is at marked in rw (← same) has.1
-
-pub count_keeps : (from node : Node) (k : List ℕ) → CountsOn from node.count → (tree : Tree) (p : Path)
+count_keeps : (from node : Node) (k : List ℕ) → CountsOn from node.count → (tree : Tree) (p : Path)
     → StandsAt tree p from → CountsKeys tree (p ++ key k ∷ []) node
 count_keeps from node k counts tree p stands sections resolved =
     let before = stands.count sections resolved in
@@ -138,21 +240,32 @@ count_keeps from node k counts tree p stands sections resolved =
 pub any_count : (spot : Spot) (count : ℕ) → (count == 0) ≡ false → spot_is_made 1 spot ≡ spot_is_made count spot
 any_count spot count some = grind arith
 
--- what is kept of the keys that lead to an entry of a table
-module _ {from node : Node} {k : List ℕ} {c : Child} (is : IsEntry from k c node) (tree : Tree) (p : Path)
+-- how a node stands below a table at a key, where a child stands for it
+pub record Enters (from : Node) (k : List ℕ) (c : Child) (node : Node) : Type 0 where
+  pub holds : node_data node ≡ child_data c
+  pub below : IsBelow from (child_trie c) node
+  pub comes : ComesFrom (child_origins c) node
+  pub outer : node.outer ≡ kept_below from
+  pub handed : HandsOn from node.trail
+  pub count : CountsOn from node.count
+  pub made : spot_is_made from.count from.spot ≡ true
+      → GoesOn from node.spot node.trail × BeginsRow from k (out-Child c).section node.spot node.trail
+
+-- what is kept of the keys that lead there
+module _ {from node : Node} {k : List ℕ} {c : Child} (is : Enters from k c node) (tree : Tree) (p : Path)
     (stands : StandsAt tree p from) (here : tree_origins tree (p ++ key k ∷ []) ≡ child_origins c []) where
   header_keeps : Further tree (p ++ key k ∷ []) node → KeysLead tree (p ++ key k ∷ []) node
   header_keeps there sections resolved made =
       let path = p ++ key k ∷ [] in
-      let before = stands.keys sections resolved (made_before (located sections) p (key k) made) in
-      let section = has_section node.spot (made_below sections tree resolved p k node there made) in
-      let has = rw here at (marked_at (located sections) (tree_origins tree) resolved.marks path (no_root p (key k))
-      made) in
+      let above = made_before (located sections) p (key k) made in
+      let before = stands.keys sections resolved above in
+      let goes = (is.made (made_at sections tree from p resolved stands above).0.made).0 in
+      let own = made_below sections tree resolved p k node there made in
+      let n = made_leads sections tree resolved path (no_root p (key k)) made node.spot own (rw here is.comes.marked) in
       record {
-        section = section.0;
-        trail = rw (section.1) at is.keys before.section before.trail;
-        leads = header_leads sections tree resolved section.0 path (section_leads (located sections) path node.spot
-            section.0 section.1 (child_origins c []) has is.comes.marked);
+        section = n.0;
+        trail = rw (n.1) at goes before.section before.trail;
+        leads = header_leads sections tree resolved n.0 path n.2;
       }
 
   row_keeps : RowsLead tree (p ++ key k ∷ []) node
@@ -160,11 +273,12 @@ module _ {from node : Node} {k : List ℕ} {c : Child} (is : IsEntry from k c no
       let kept = stands.keys sections resolved made in
       let within : from.tree.now ≡ tree = stands.within in
       let keys = kept_first from tree p within (stands.count sections resolved) kept in
+      let row = (is.made (made_at sections tree from p resolved stands made).0.made).1 in
       let same : k ≡ l = cc in
       rw here (some_both (child_origins c []) (child_bears c) is.comes.own (λ o bears own apart.
       let spot : spot_is_made 1 node.spot ≡ false =
       any_count node.spot node.count is.below.count ∙ sym (ap (λ o. o.made) (own apart)) ∙ apart in
-      rw (bears apart, ← same, ← keys, ← within) (is.row kept.section kept.trail spot))))
+      rw (bears apart, ← same, ← keys, ← within) (row kept.section kept.trail spot))))
 
   pub key_keeps : Further tree (p ++ key k ∷ []) node → KeepsKeys tree (p ++ key k ∷ []) node
   key_keeps there = (count_keeps from node k is.count tree p stands, header_keeps there, row_keeps)

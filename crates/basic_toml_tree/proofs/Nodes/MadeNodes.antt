@@ -1,7 +1,6 @@
 -- What headers made, as the tree has it and as the section list foretells it.
 use Rattle.std.proofs.Common.{arith, ◌≡◌, inl, inr, ◌==◌, ℕ, Bool, true, false, List, [], ◌∷◌, refl, ap, sym, ◌∙◌, map}
-use Rattle.std.proofs.Common.{codes}
-use Rattle.std.specs.Prelude.{if◌then◌else◌}
+use Rattle.std.proofs.Common.{codes, if◌then◌else◌}
 use Rattle.std.proofs.lemmas.Bool.{false≢true}
 use Rattle.basic_toml_grammar.specs.Sections.{Section}
 use Rattle.basic_toml_grammar.specs.Steps.{Path}

@@ -1,7 +1,6 @@
 -- What a node is found by again is an anchor of what is at its path.
-use Rattle.std.proofs.Common.{◌≡◌, ◌==◌, ℕ, Bool, true, false, List, [], Option, Some, None, length, arith, refl}
-use Rattle.std.proofs.Common.{sym, ◌∙◌, inl, inr}
-use Rattle.std.specs.Prelude.{IsSomeAnd, if◌then◌else◌}
+use Rattle.std.proofs.Common.{◌≡◌, ◌==◌, ℕ, Bool, true, false, List, [], Some, length, arith, refl, sym, ◌∙◌, inl, inr}
+use Rattle.std.proofs.Common.{if◌then◌else◌}
 use Rattle.std.proofs.lemmas.Bool.{false≢true, cases_Bool}
 use Rattle.basic_toml_grammar.specs.Sections.{Section}
 use Rattle.basic_toml_grammar.specs.Steps.{Path, keys_of}
@@ -19,17 +18,14 @@ use Rattle.basic_toml_tree.specs.declared.spot.Spot.{Spot}
 use Rattle.basic_toml_tree.specs.declared.spot.Spot.TheVariants as spots
 use Rattle.basic_toml_tree.specs.HeaderTables.{table_of}
 use Rattle.basic_toml_tree.specs.Origin.{spot_is_made, spot_section, spot_anchor, anchor_of, start_of, is_made}
-use Rattle.basic_toml_tree.specs.Stands.{IsNodeAt, is_root, spot_trie, tree_origins}
+use Rattle.basic_toml_tree.specs.Stands.{IsNodeAt, is_root, spot_trie}
 use Rattle.basic_toml_tree.proofs.Foretold.NodesForetold.{made_foretold, start_foretold}
-use Rattle.basic_toml_tree.proofs.Nodes.KeysTold.{any_count, has_section, marked_at, section_leads}
+use Rattle.basic_toml_tree.proofs.Nodes.KeysTold.{any_count, made_leads}
 use Rattle.basic_toml_tree.proofs.Nodes.MadeNodes.{is_told}
+use Rattle.basic_toml_tree.proofs.Nodes.NodesOfValues.{some_and}
 
 no_steps : (p : Path) → is_root p ≡ true → p ≡ []
 no_steps p root = grind arith
-
-said : {A : Type 0} (o : Option A) (P : Type 0) → IsSomeAnd o (λ x. P) → P
-said None P some = absurd some
-said (Some x) P some = some
 
 -- the anchor of what headers made, and of what they did not
 made_anchor : (spot : Spot) (start keys n : ℕ) → spot_is_made 1 spot ≡ true → spot_section spot ≡ Some n
@@ -49,25 +45,17 @@ module _ (sections : List Section) (p : Path) (node : Node) (is : IsNodeAt secti
     (below : (node.count == 0) ≡ false) where
   -- headers made it, as the section list has it
   made_as : is_made node ≡ grammar.is_made (located sections) p
-  made_as =
-      said (grammar.node_at sections p) (is_made node ≡ grammar.is_made (located sections) p)
-      (made_foretold (is_made node) node refl sections p is)
+  made_as = (some_and (grammar.node_at sections p) (made_foretold (is_made node) node refl sections p is)).2
 
   counted : node.count ≡ length (keys_of p)
   counted = is.stands.count sections is.resolved
 
   of_value : is_made node ≡ false → IsAnchorOf sections p (anchors.Value node.start node.count)
   unfolding start_of
-  of_value apart = (
-    sym made_as ∙ apart,
-    rw apart at (turned (grammar.node_at sections p) (start_foretold (start_of node) node refl sections p is)),
-    counted,
-  )
-    where
-      turned : (o : Option grammar.Node) → IsSomeAnd o (λ found. start_of node ≡ found.start)
-          → IsSomeAnd o (λ found. found.start ≡ start_of node)
-      turned None some = some
-      turned (Some found) same = sym same
+  of_value apart =
+      let found = some_and (grammar.node_at sections p) (start_foretold (start_of node) node refl sections p is) in
+      let same : start_of node ≡ Some node.start = rw apart refl in
+      (sym made_as ∙ apart, rw (found.1) (sym found.2 ∙ same), counted)
 
   of_made : (array : Bool) (n : ℕ) → array ≡ grammar.is_array (located sections) p → LeadsTo (located sections) n p
       → IsAnchorOf sections p (if array then anchors.Array n node.count else anchors.Table n node.count)
@@ -77,16 +65,12 @@ module _ (sections : List Section) (p : Path) (node : Node) (is : IsNodeAt secti
   by_spot : IsAnchorOf sections p (spot_anchor node.spot node.start node.count)
   by_spot = elim (cases_Bool (is_made node)) [
     | inl made ↦
-        let ls = located sections in
-        let origins = tree_origins node.tree.now in
         let there = sym made_as ∙ made in
         let one = any_count node.spot node.count below ∙ made in
-        let section = has_section node.spot one in
-        let has = marked_at ls origins is.resolved.marks p (sym is.stands.root ∙ below) there in
-        rw (made_anchor node.spot node.start node.count section.0 one section.1) (of_made
-        (stands_array (standing (spot_trie node.spot))) section.0 (is_told sections node p is there).1
-        (section_leads ls p node.spot section.0 section.1 (origins p) has
-        (rw (append_none p) at is.stands.comes.marked)))
+        let n = made_leads sections node.tree.now is.resolved p (sym is.stands.root ∙ below) there node.spot one
+        (rw (append_none p) at is.stands.comes.marked) in
+        rw (made_anchor node.spot node.start node.count n.0 one n.1) (of_made
+        (stands_array (standing (spot_trie node.spot))) n.0 (is_told sections node p is there).1 n.2)
     | inr apart ↦
         rw (row_anchor node.spot node.start node.count (any_count node.spot node.count below ∙ apart)) (of_value apart)
   ]

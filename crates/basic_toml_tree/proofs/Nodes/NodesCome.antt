@@ -1,10 +1,9 @@
 -- A node comes from what the origins in the tree tell at its path.
-use Rattle.std.proofs.Common.{inl, inr, ◌≡◌, ◌==◌, ℕ, true, false, [], ◌∷◌, ◌++◌, Option, Some, refl, ap, sym, ◌∙◌}
-use Rattle.std.proofs.Common.{subst, rules, append_assoc}
-use Rattle.std.specs.Prelude.{IfSome, if◌then◌else◌}
-use Rattle.std.specs.Borrow.{Bor}
+use Rattle.std.proofs.Common.{inl, inr, ◌≡◌, ◌==◌, ℕ, true, false, [], ◌∷◌, ◌++◌, Option, Some, refl, ap, sym, ◌∙◌, Bor}
+use Rattle.std.proofs.Common.{subst, rules, append_assoc, IfSome, if◌then◌else◌}
 use Rattle.std.proofs.Math.Path.{fun_ext}
-use Rattle.std.proofs.lemmas.Bool.{false≢true, cases_Bool}
+use Rattle.std.proofs.lemmas.Bool.{cases_Bool}
+use Rattle.std.proofs.lemmas.Option.{IfSome_then}
 use Rattle.basic_toml_grammar.specs.Steps.{Step, Path}
 use Rattle.basic_toml_grow.specs.declared.item.Item.{Item, out-Item, the_lemmas}
 use Rattle.basic_toml_grow.specs.declared.item.Item.TheOpen.{Item-F}
@@ -83,41 +82,28 @@ item_told x at s = record {
   is_slice = holds_string x;
 }
 
-record Tells (x : Item-F Item Child Table) (at s : ℕ) (o : Option Origin) : Type 0 where
-  own : Origin
-  is : o ≡ Some own
-  told : own.made ≡ false → own ≡ item_told x at s
-  marked : IfSome (item_section x) (λ n. own.section ≡ n)
+abbrev Tells : Item-F Item Child Table → ℕ → ℕ → Option Origin → Type 0
+Tells x at s o =
+    IfSome o (λ o. (o.made ≡ false → o ≡ item_told x at s) × IfSome (item_section x) (λ n. o.section ≡ n))
 
--- what headers made
-made_tells : (x : Item-F Item Child Table) (at s : ℕ) (o : Origin) → item_origins (roll-Item x) at s [] ≡ Some o
-    → o.made ≡ true → IfSome (item_section x) (λ n. o.section ≡ n)
+told_by : (x : Item-F Item Child Table) (at s : ℕ) (o : Origin) → item_origins (roll-Item x) at s [] ≡ Some o
+    → (o.made ≡ false → o ≡ item_told x at s) → IfSome (item_section x) (λ n. o.section ≡ n)
     → Tells x at s (item_origins (roll-Item x) at s [])
-made_tells x at s o is made marked = record {
-  own = o;
-  is = is;
-  told = λ apart. absurd (false≢true (sym apart ∙ made));
-  marked = marked;
-}
+told_by x at s o is told marked = rw is (told, marked)
 
 form_tells : (x : Item-F Item Child Table) (at s : ℕ) → Tells x at s (item_origins (roll-Item x) at s [])
 form_tells (Item-F.Table z) at s =
     let w = table_within z.value in
-    record {
-      own = table_origin w.made at (section_in w s);
-      is = search (rules, the_lemmas);
-      told = λ apart. ap (λ made. table_origin made at (if made then w.section else s)) apart;
-      marked = tt;
-    }
+    told_by (Item-F.Table z) at s (table_origin w.made at (section_in w s)) (search (rules, the_lemmas))
+    (λ apart. ap (λ made. table_origin made at (if made then w.section else s)) apart) tt
 form_tells (Item-F.Section z) at s =
-    made_tells (Item-F.Section z) at s (table_origin true at s) (search (rules, the_lemmas)) refl tt
+    told_by (Item-F.Section z) at s (table_origin true at s) (search (rules, the_lemmas)) (λ apart. cc) tt
 form_tells (Item-F.Tables y) at s =
-    made_tells (Item-F.Tables y) at s (array_origin at (table_within y.value.1).section) (search (rules, the_lemmas))
-    refl (section_seen y.value.1)
+    told_by (Item-F.Tables y) at s (array_origin at (table_within y.value.1).section) (search (rules, the_lemmas))
+    (λ apart. cc) (section_seen y.value.1)
 form_tells (Item-F.Sections y) at s =
-    made_tells (Item-F.Sections y) at s (array_origin at y.value.1.0) (search (rules, the_lemmas)) refl refl
-form_tells x at s =
-    record { own = item_told x at s; is = search (rules, the_lemmas); told = λ apart. refl; marked = tt }
+    told_by (Item-F.Sections y) at s (array_origin at y.value.1.0) (search (rules, the_lemmas)) (λ apart. cc) refl
+form_tells x at s = told_by x at s (item_told x at s) (search (rules, the_lemmas)) (λ apart. refl) tt
 
 item_tells : (i : Item) (at s : ℕ) → Tells (out-Item i) at s (item_origins i at s [])
 item_tells i at s =
@@ -129,17 +115,18 @@ pub child_bears : (c : Child)
     → IfSome (child_origins c []) (λ o. o.made ≡ false → o.section ≡ (out-Child c).section)
 child_bears c =
     let x = out-Child c in
-    let tells = item_tells x.item x.start x.section in
-    rw (child_seen c, tells.is) (λ apart. ap (λ o. o.section) (tells.told apart))
+    rw (child_seen c) (IfSome_then (item_origins x.item x.start x.section []) (item_tells x.item x.start x.section)
+    (λ o told apart. ap (λ o. o.section) (told.0 apart)))
 
 pub item_comes : (c : Child) (b : Bor Item) (count : ℕ) → b.now ≡ (out-Child c).item
     → SpotComes (child_origins c) count (spots.Item b) (out-Child c).start
 item_comes c b count is =
     let x = out-Child c in
     let tells = item_tells b.now x.start x.section in
+    let own = item_origins b.now x.start x.section [] in
     rw (child_seen c, ← is) (record {
       section = x.section;
-      own = rw (tells.is) tells.told;
-      marked = rw (tells.is) tells.marked;
+      own = IfSome_then own tells (λ o told. told.0);
+      marked = IfSome_then own tells (λ o told. told.1);
       parts = λ r q. refl;
     })

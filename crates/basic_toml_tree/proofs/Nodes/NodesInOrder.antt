@@ -1,13 +1,12 @@
 -- The elements of an array and the entries of a table, one after another.
 use Rattle.std.proofs.Common.{arith, ◌≡◌, ℕ, zero, suc, ◌+◌, ◌<◌, List, [], ◌∷◌, ◌++◌, length, drop, map, Some, refl}
-use Rattle.std.proofs.Common.{ap, ◌∙◌, sym, get_or, IsTrue, Vec, Box, Global, option_map}
-use Rattle.std.specs.Prelude.{slice_get}
+use Rattle.std.proofs.Common.{ap, ◌∙◌, sym, get_or, IsTrue, Vec, Box, Global, option_map, slice_get}
 use Rattle.std.proofs.lemmas.List.{drop_more, map-append}
 use Rattle.std.proofs.lemmas.Simd.{map-map}
 use Rattle.std.specs.Iterator.{MakesProgress, item_count}
 use Rattle.std.specs.declared.iter.Iterator.{can_next-default}
 use Rattle.std.proofs.lemmas.Option.{get_or_from_slice_get, slice_get-map, slice_get_read, slice_get_within}
-use Rattle.basic_toml_value.specs.Data.{Data, no_members, items_of, members_of}
+use Rattle.basic_toml_value.specs.Data.{Data, items_of, members_of}
 use Rattle.basic_toml_index.specs.Keys.{are_distinct}
 use Rattle.basic_toml_value.specs.Pairs.{keys_of}
 use Rattle.basic_toml_plain.specs.PlainTables.{SectionTables, tables_in}
@@ -52,12 +51,12 @@ module _ {A B : Type 0} (f : A → B) where
   mapped_read xs i x within read = read_mapped xs i x (slice_get_read _ _ _ _ refl within read)
 
 -- the key and the value at a position, together
-pub pair_read : {A D : Type 0} (f : A → D) (ps : List (List ℕ × A)) (i : ℕ) (k : List ℕ) (v : A)
+pub pair_read : {A : Type 0} (ps : List (List ℕ × A)) (i : ℕ) (k : List ℕ) (v : A)
     → slice_get (map (λ p. p.0) ps) i ≡ Some k → slice_get (map (λ p. p.1) ps) i ≡ Some v
-    → slice_get {X = List ℕ × D} (map (λ p. (p.0, f p.1)) ps) i ≡ Some (k, f v)
-pair_read f [] i k v key value = absurd (cc)
-pair_read f (p ∷ ps) zero k v key value = grind arith
-pair_read f (p ∷ ps) (suc i) k v key value = pair_read f ps i k v key value
+    → slice_get ps i ≡ Some (k, v)
+pair_read [] i k v key value = absurd (cc)
+pair_read (p ∷ ps) zero k v key value = grind arith
+pair_read (p ∷ ps) (suc i) k v key value = pair_read ps i k v key value
 
 pub array_elements : (children : Vec Child Global)
     → elements_in (data_of (Array children)) ≡ map child_data children.items
@@ -86,12 +85,10 @@ pub distinct_keys : (d : Data) (t : Table) → d ≡ table_data t → IsTrue (ar
     → IsTrue (are_distinct (keys_of (entries_in d)))
 distinct_keys d t same distinct = rw (same, table_entries t, map-map) distinct
 
-pub no_keys : (d : Data) → d ≡ Data.table no_members → IsTrue (are_distinct (keys_of (entries_in d)))
-no_keys d same = rw same refl
+pub ruleset table_keys = (distinct_keys)
 
-pub ruleset table_keys = (distinct_keys, no_keys)
-
--- an iterator that has fewer items left makes progress
-pub progress : {S A D : Type 0} (rest : S → List D) (s t : S) (x : A) → length (rest t) < length (rest s)
+-- an iterator that goes on to the rest of its items makes progress
+pub progress : {S A D : Type 0} (rest : S → List D) (s t : S) (x : A) (d : D) → rest s ≡ d ∷ rest t
     → MakesProgress (can_next-default S A) (item_count rest) s (Some x) t
-progress rest s t x less = record { on = λ finite. (tt, tt, less); keeps = tt; rests = λ finite. tt }
+progress rest s t x d next =
+    record { on = λ finite. (tt, tt, omega (arith, ap length next)); keeps = tt; rests = λ finite. tt }

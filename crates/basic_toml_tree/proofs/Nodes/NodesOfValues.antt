@@ -1,7 +1,7 @@
 -- What holds of what is there, if anything is. What holds of each value and of each dotted table holds of every node in
 -- a value.
-use Rattle.std.proofs.Common.{◌≡◌, Option, Some, None, refl, ℕ, zero, suc, Bool, true, false, [], ◌∷◌}
-use Rattle.std.specs.Prelude.{IfSome, if◌then◌else◌}
+use Rattle.std.proofs.Common.{IsSomeAnd, ◌≡◌, Option, Some, None, refl, ℕ, zero, suc, Bool, true, false, [], ◌∷◌}
+use Rattle.std.proofs.Common.{IfSome, if◌then◌else◌}
 use Rattle.std.specs.Option.{option_or}
 use Rattle.basic_toml_grammar.specs.Sections.{KeyTexts, texts, Raw, Elements, no_elements, element, Rows, no_rows, row}
 use Rattle.basic_toml_grammar.specs.Steps.{key, number, Path, begins, steps_of}
@@ -12,6 +12,11 @@ module _ {A : Type 0} where
   pub if_there : (o : Option A) {P : A → Type 0} → ((x : A) → o ≡ Some x → P x) → IfSome o P
   if_there None so = tt
   if_there (Some x) so = so x refl
+
+  -- what is there
+  pub some_and : (o : Option A) {P : A → Type 0} → IsSomeAnd o P → (x : A) × (o ≡ Some x) × P x
+  some_and None some = absurd some
+  some_and (Some x) some = (x, refl, some)
 
   -- of the first of two
   pub or_some : (m n : Option A) (P : A → Type 0) → IfSome m P → IfSome n P → IfSome (option_or m n) P

@@ -1,19 +1,18 @@
 -- Which keys rows lead over: rows that tell something past a step go over it, and tell of it, too. So where rows put
 -- something at a key of a table that headers made, or below it, they are rows of one section: those of two would clash.
 use Rattle.std.proofs.Common.{◌≡◌, ◌⊎◌, inl, inr, ℕ, true, false, List, [], ◌∷◌, ◌++◌, Option, Some, None, refl, sym}
-use Rattle.std.proofs.Common.{◌∙◌, arith, ◌+◌, zero, suc, Bool, ap, slice_get, append_assoc, length, drop}
+use Rattle.std.proofs.Common.{◌∙◌, arith, ◌+◌, zero, suc, Bool, ap, slice_get, append_assoc, length, drop, is_some}
 use Rattle.std.proofs.lemmas.Bool.{false≢true, and_parts, or_parts, cases_Bool}
 use Rattle.basic_toml_grammar.specs.Sections.{KeyTexts, texts, Raw, Rows, no_rows, Key, row}
 use Rattle.basic_toml_grammar.specs.Steps.{Step, key, Path, step_eq, begins, steps_of, number}
 use Rattle.basic_toml_grammar.specs.IndexedPath.{Located}
-use Rattle.basic_toml_grammar.specs.SectionClash.{row_crossed, any_row_clashes, without_last_number, target}
-use Rattle.basic_toml_grammar.specs.SectionClash.{same_path, any_pair, clashes, clashes_one_way}
+use Rattle.basic_toml_grammar.specs.SectionClash.{row_crossed, any_row_clashes, without_last_number, target, same_path}
+use Rattle.basic_toml_grammar.specs.SectionClash.{any_pair, clashes, clashes_one_way}
 use Rattle.basic_toml_grammar.specs.Entering.{keyed_within}
 use Rattle.basic_toml_grammar.proofs.Clash.ClashesAgree.{turn_eq, crossed_is}
-use Rattle.basic_toml_grow.specs.Origins.{Origin, Origins, entry, table_origin, row_origins, value_origins}
-use Rattle.basic_toml_grow.specs.Origins.{rows_origins, along}
+use Rattle.basic_toml_grow.specs.Origins.{Origin, Origins, entry, table_origin, row_origins, value_origins, along}
+use Rattle.basic_toml_grow.specs.Origins.{rows_origins}
 use Rattle.basic_toml_tree.proofs.Origins.RowsAreNodes.{begins_on, goes_on, along_on, begins_front}
-use Rattle.std.specs.Prelude.{is_some}
 use Rattle.std.specs.List.{list_any, list_all}
 use Rattle.basic_toml_grammar.specs.Placed.{is_short}
 use Rattle.basic_toml_grammar.specs.Nodes.{is_made}
@@ -24,7 +23,7 @@ use Rattle.basic_toml_grammar.proofs.Clash.StepTestsDecide.{step_is, paths_same}
 use Rattle.basic_toml_grow.specs.Ways.{sections_origins}
 use Rattle.basic_toml_tree.proofs.HeadersMake.{any_of}
 use Rattle.basic_toml_tree.proofs.Nodes.KeysLead.{Beyond, compare}
-use Rattle.basic_toml_tree.proofs.Nodes.Lines.{goes_by, none_passes}
+use Rattle.basic_toml_tree.proofs.Nodes.Lines.{goes_by, no_longer, none_passes}
 
 -- Rows of the section with this number tell something.
 abbrev pub Told : ℕ → Option Origin → Type 0
@@ -167,10 +166,6 @@ further_clashes i j y z s (u ∷ b, at, rest) over apart =
     let crossed : row_crossed i.path steps j ≡ true =
     rw (crossed_is i.path steps (target j), same) (crosses_after i.path (u ∷ b) steps (shorter (u ∷ b) z s steps on)) in
     false≢true (sym (over.crossed j (or_parts _ _ (or_parts _ _ apart).1).1) ∙ crossed)
-
-pub no_longer : (w : Path) (u : Step) (y : Path) → begins (w ++ u ∷ y) w ≡ true → ⊥
-no_longer [] u y e = false≢true e
-no_longer (s ∷ w) u y e = no_longer w u y (and_parts _ _ e).1
 
 made_by : (ls : List Located) (w : Path) (u : Step) (y : Path) → is_made ls (w ++ u ∷ y) ≡ true
     → list_any (λ l. begins (w ++ u ∷ y) l.path) ls ≡ true

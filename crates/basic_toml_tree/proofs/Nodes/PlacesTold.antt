@@ -1,10 +1,8 @@
 -- The offset that names a node in errors, by the section list: where the node begins, but for an array the outer
 -- offset.
 use Rattle.std.proofs.Common.{arith, ◌≡◌, ◌⊎◌, inl, inr, ℕ, Bool, true, false, List, [], ◌∷◌, Option, refl, ap, sym}
-use Rattle.std.proofs.Common.{◌∙◌, rules, codes, ◌++◌}
-use Rattle.std.specs.Prelude.{IfSome}
+use Rattle.std.proofs.Common.{◌∙◌, rules, codes, ◌++◌, IfSome, bytes_eq}
 use Rattle.std.specs.Option.{option_or}
-use Rattle.std.specs.Str.{bytes_eq}
 use Rattle.basic_toml_grammar.specs.Sections.{KeyTexts, texts, Raw, Rows, no_rows, row, Section}
 use Rattle.basic_toml_grammar.specs.Steps.{Path, begins, steps_of}
 use Rattle.basic_toml_grammar.specs.IndexedPath.{Located, located}

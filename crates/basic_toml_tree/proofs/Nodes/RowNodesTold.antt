@@ -1,6 +1,6 @@
 -- What rows made, as the tree has it and as the section list foretells it.
 use Rattle.std.proofs.Common.{arith, ◌≡◌, ℕ, Bool, true, false, List, [], ◌∷◌, Option, Some, None, refl, ap, sym, ◌∙◌}
-use Rattle.std.specs.Prelude.{◌||◌, ◌&&◌, IfSome}
+use Rattle.std.proofs.Common.{◌||◌, ◌&&◌, IfSome}
 use Rattle.std.specs.List.{list_any, list_all}
 use Rattle.std.proofs.lemmas.Bool.{false≢true, or_parts}
 use Rattle.basic_toml_grammar.specs.Sections.{Section}

@@ -1,6 +1,6 @@
 use Rattle.std.proofs.Common.{◌≡◌, ◌∷◌, [], ◌++◌, length, Some, ap, sym, ◌∙◌, arith, rules, refl, length-append}
+use Rattle.std.proofs.Common.{slice_get}
 use Rattle.std.proofs.lemmas.Option.{slice_get_read, slice_get_within}
-use Rattle.std.specs.Prelude.{slice_get}
 use Rattle.std.proofs.lemmas.List.{length-map}
 use Rattle.std.proofs.lemmas.Grind.{common_steps}
 use Rattle.basic_toml_grammar.specs.Mentions.{finished}
@@ -13,12 +13,11 @@ use Rattle.basic_toml_plain.proofs.PlainValues.{array_within}
 use Rattle.basic_toml_grow.specs.declared.item.Item.{the_lemmas, Array, Plain, Rows, Sections, Tables}
 use Rattle.basic_toml_tree.specs.Data.{data_of}
 use Rattle.basic_toml_tree.specs.Nodes.{node_data, spot_data, elements_in}
-use Rattle.basic_toml_tree.proofs.Nodes.NodesInOrder.{array_elements, sections_elements, tables_elements}
-use Rattle.basic_toml_tree.proofs.Nodes.NodesInOrder.{front_read, last_read}
+use Rattle.basic_toml_tree.proofs.Nodes.NodesInOrder.{array_elements, sections_elements, tables_elements, front_read}
+use Rattle.basic_toml_tree.proofs.Nodes.NodesInOrder.{last_read}
 use Rattle.basic_toml_tree.specs.declared.spot.HeaderTable.TheVariants.{Entries}
 use Rattle.basic_toml_tree.specs.declared.spot.Spot.TheVariants as spots
-use Rattle.basic_toml_tree.proofs.Nodes.NodesStand.{literal_stands, plain_given}
-use Rattle.basic_toml_tree.proofs.Nodes.TablesStand.{section_among, table_among, table_stands}
+use Rattle.basic_toml_tree.proofs.Nodes.NodesStand.{literal_given, plain_given, section_among, table_among, table_given}
 use Rattle.basic_toml_tree.proofs.ItemData.{plain_item, rows_item}
 use Rattle.basic_toml_tree.proofs.InlineTables.{raw_no_elements, rows_no_elements}
 use Rattle.basic_toml_tree.proofs.node.Node.element_at.Goals as goal
@@ -26,11 +25,10 @@ use Rattle.basic_toml_tree.proofs.node.Node.element_at.Goals as goal
 pub returns-in-Some : goal.returns-in-Some
 returns-in-Some c =
     let lookup = c.in-Some.ensures.lookup in
-    let given = literal_stands c.args.self c.element.result c.args.at c.in-Item-Array.field-0 (search (rules))
+    literal_given c.args.self c.element.result c.args.at c.in-Item-Array.field-0 (search (rules))
     c.in-Item-Array.children c.element.result.spot c.in-Some.child.now (search (rules))
     (ap (λ xs. slice_get xs c.args.at) (sym c.deref.ensures.value) ∙ slice_get_read _ _ _ _ refl lookup.3.0 lookup.1)
-    c.element.ensures.«data» c.element.ensures.beside c.element.ensures.comes in
-    record { within = λ some. grind (arith, common_steps); «data» = given.0; stands = given.1 }
+    c.element.ensures.«data» c.element.ensures.beside c.element.ensures.comes (λ some. grind (arith, common_steps))
 
 pub returns-in-None-clause-data : goal.returns-in-None-clause-data
 returns-in-None-clause-data c =
@@ -52,40 +50,38 @@ returns-in-Some-get c =
     let whole = c.as_slice-earlier.ensures.value ∙ ap (λ ts. ts.0.items) c.deref-in-Item-Tables.ensures in
     let t = c.in-Some-get.table in
     let lookup = c.in-Some-get.ensures.lookup in
-    let given = table_stands c.args.self c.element_table.result c.args.at c.in-Item-Tables.field-0 (Entries t)
+    table_given c.args.self c.element_table.result c.args.at c.in-Item-Tables.field-0 (Entries t)
     (search (rules)) (Tables tables) (search (rules)) (table_among tables c.args.at t.now
     (front_read tables.value.0.items (tables.value.1 ∷ []) c.args.at t.now
     (ap (λ ts. slice_get ts c.args.at) (sym whole)
     ∙ slice_get_read _ _ _ _ refl lookup.3.0 lookup.1)))
-    c.element_table.ensures.beside c.element_table.ensures.start in
-    record { within = λ some. grind (arith, common_steps); «data» = given.0; stands = given.1 }
+    c.element_table.ensures.beside c.element_table.ensures.start (λ some. grind (arith, common_steps))
 
 pub returns-then-at-earlier : goal.returns-then-at-earlier
 returns-then-at-earlier c =
     let tables = c.in-Item-Tables.tables in
     let whole = c.as_slice-earlier.ensures.value ∙ ap (λ ts. ts.0.items) c.deref-in-Item-Tables.ensures in
-    let given = table_stands c.args.self c.element_table-then-at-earlier.result c.args.at c.in-Item-Tables.field-0
+    table_given c.args.self c.element_table-then-at-earlier.result c.args.at c.in-Item-Tables.field-0
     (Entries _) (search (rules)) (Tables tables) (search (rules)) (table_among tables c.args.at
     c.deref-then-at-earlier.result.now.1
     (ap (slice_get (tables.value.0.items ++ tables.value.1 ∷ [])) (c.if-at-earlier.true ∙ ap length whole)
     ∙ last_read tables.value.0.items tables.value.1
     ∙ ap Some (sym (ap (λ ts. ts.1) c.deref-then-at-earlier.ensures))))
-    c.element_table-then-at-earlier.ensures.beside c.element_table-then-at-earlier.ensures.start in
-    record { within = λ some. grind (arith, common_steps); «data» = given.0; stands = given.1 }
+    c.element_table-then-at-earlier.ensures.beside c.element_table-then-at-earlier.ensures.start
+    (λ some. grind (arith, common_steps))
 
 pub returns-in-Some-get-2 : goal.returns-in-Some-get-2
 returns-in-Some-get-2 c =
     let tables = c.in-Item-Sections.tables in
     let t : SectionTable = (c.in-Some-get-2.section, c.in-Some-get-2.rows.now) in
-    let given = table_stands c.args.self c.section_element.result c.args.at c.in-Item-Sections.field-0 _
-    (search (rules)) (Sections tables) (search (rules)) (section_among tables c.args.at t
-    (ap (λ ts. slice_get (tables_in ts) c.args.at) (sym c.deref-in-Item-Sections-2.ensures)
-    ∙ c.in-Some-get-2.ensures.table) c.in-Some-get-2.ensures.plain)
-    c.section_element.ensures.beside c.section_element.ensures.start in
+    let found = c.in-Some-get-2.ensures in
     let whole = c.deref-in-Item-Sections-2.ensures in
-    let at = slice_get_within (tables_in c.deref-in-Item-Sections-2.result.now) c.args.at t
-    c.in-Some-get-2.ensures.table in
-    record { within = λ some. grind (arith, at, whole, c.len-count.ensures); «data» = given.0; stands = given.1 }
+    let at = slice_get_within (tables_in c.deref-in-Item-Sections-2.result.now) c.args.at t found.table in
+    table_given c.args.self c.section_element.result c.args.at c.in-Item-Sections.field-0 _ (search (rules))
+    (Sections tables) (search (rules)) (section_among tables c.args.at t
+    (ap (λ ts. slice_get (tables_in ts) c.args.at) (sym whole) ∙ found.table) found.plain)
+    c.section_element.ensures.beside c.section_element.ensures.start
+    (λ some. grind (arith, at, whole, c.len-count.ensures))
 
 pub returns-in-None-get-2-clause-data : goal.returns-in-None-get-2-clause-data
 returns-in-None-get-2-clause-data c =
@@ -101,11 +97,9 @@ returns-in-Item-Plain c =
     let is : c.in-Item-Plain.field-0.now ≡ Plain c.in-Item-Plain.array = search (rules) in
     let es = c.elements.result.now in
     let whole : c.in-Item-Plain.field-0.now ≡ Plain es = is ∙ ap Plain (sym c.elements.ensures.elements) in
-    let given = plain_given c.args.self es c.args.at c.plain_element.result
-    (ap spot_data at ∙ ap data_of whole ∙ plain_item es) (rw (at, whole) (plain_trie es))
-    (λ start s. rw (at, whole) (search (rules, the_lemmas))) c.plain_element.ensures.none
-    c.plain_element.ensures.some in
-    record { within = c.plain_element.ensures.within; «data» = given.0; stands = given.1 }
+    plain_given c.args.self es c.args.at c.plain_element.result (ap spot_data at ∙ ap data_of whole ∙ plain_item es)
+    (rw (at, whole) (plain_trie es)) (λ start s. rw (at, whole) (search (rules, the_lemmas)))
+    c.plain_element.ensures
 
 pub plain_element-requires-in-Array : goal.plain_element-requires-in-Array
 plain_element-requires-in-Array c =
@@ -116,11 +110,9 @@ pub returns-in-Array : goal.returns-in-Array
 returns-in-Array c =
     let es = c.in-Array.elements in
     let seen = ap raw_of c.in-Array.is ∙ array_of es in
-    let given_at = rw (c.as_slice.ensures.value) at c.plain_element-in-Array.ensures in
-    let given = plain_given c.args.self es.items c.args.at c.plain_element-in-Array.result
+    plain_given c.args.self es.items c.args.at c.plain_element-in-Array.result
     (ap spot_data c.in-Plain.is ∙ ap finished seen) (rw (c.in-Plain.is, seen) refl)
-    (λ start s. rw (c.in-Plain.is, seen) refl) given_at.none given_at.some in
-    record { within = c.plain_element-in-Array.ensures.within; «data» = given.0; stands = given.1 }
+    (λ start s. rw (c.in-Plain.is, seen) refl) (rw (c.as_slice.ensures.value) at c.plain_element-in-Array.ensures)
 
 -- what is no array has none
 pub returns-in_default-value-clause-data : goal.returns-in_default-value-clause-data

@@ -1,12 +1,10 @@
-use Rattle.std.proofs.Common.{◌≡◌, ◌∙◌, rules, sym}
+use Rattle.std.proofs.Common.{◌≡◌, ◌∙◌, rules}
 use Rattle.basic_toml_tree.specs.Data.{table_data}
 use Rattle.basic_toml_tree.specs.Nodes.{node_data}
-use Rattle.basic_toml_tree.specs.Stands.{HoldsTable}
+use Rattle.basic_toml_tree.specs.declared.spot.Fields.TheVariants as fields
 use Rattle.basic_toml_tree.proofs.ItemData.{data_at_absent}
-use Rattle.basic_toml_tree.proofs.Nodes.EntryNodes.{entry_given, plain_read, section_at}
-use Rattle.basic_toml_grow.specs.Simple.{section_table}
-use Rattle.basic_toml_tree.proofs.SectionData.{section_table_data}
-use Rattle.basic_toml_tree.proofs.Nodes.RowNodes.{key_absent, row_given}
+use Rattle.basic_toml_tree.proofs.Nodes.EntryNodes.{entry_enters, entry_given, key_absent, plain_read, row_enters}
+use Rattle.basic_toml_tree.proofs.Nodes.EntryNodes.{section_at}
 use Rattle.basic_toml_tree.proofs.node.Node.get.Goals as goal
 
 pub returns-in_default-clause-data : goal.returns-in_default-clause-data
@@ -16,11 +14,9 @@ returns-in_default-clause-data c =
 
 pub returns-in-Some : goal.returns-in-Some
 returns-in-Some c =
-    let table = c.in-Table.table.now in
-    let holds : HoldsTable c.args.self.spot table = search rules in
-    let whole : node_data c.args.self ≡ table_data table = search rules in
-    entry_given table holds whole c.in-Some.ensures.value
-    (rw (c.as_str.ensures.value ∙ c.in-Some.ensures.same) at c.below.ensures)
+    let table = rw c.in-Table.is at c.in_ok-table.ensures in
+    entry_given (fields.Table c.in-Table.table) table.fields table.«data» (λ s. c.in-Some.ensures.value)
+    (λ s. entry_enters (rw (c.as_str.ensures.value ∙ c.in-Some.ensures.same) at c.below.ensures))
 
 -- a row of an inline table
 pub plain_row-requires : goal.plain_row-requires
@@ -33,8 +29,11 @@ pub returns-in-Some-row_at : goal.returns-in-Some-row_at
 returns-in-Some-row_at c =
     let table = rw c.in-Rows.is at c.in_ok-table.ensures in
     let found = c.in-Some-row_at.ensures in
-    row_given c.args.self c.plain_row.result c.in-Rows.rows.now table.«data» table.fields.0 table.fields.1 found.0
-    c.in-Some-row_at.row.now found.1 c.plain_row.ensures c.args.key.now found.2
+    let rows = c.in-Rows.rows.now in
+    let r = c.in-Some-row_at.row.now in
+    rw (← (found.2)) (entry_given (fields.Rows c.in-Rows.rows) table.fields table.«data»
+    (λ s. section_at rows table.fields.1 s found.0 r found.1)
+    (row_enters rows r table.fields.0 (plain_read rows table.fields.1 found.0 r found.1) c.plain_row.ensures))
 
 pub returns-in-None-clause-data : goal.returns-in-None-clause-data
 returns-in-None-clause-data c =
@@ -52,11 +51,11 @@ pub returns-in-Some-row_at-2 : goal.returns-in-Some-row_at-2
 returns-in-Some-row_at-2 c =
     let table = rw c.in-Section.is at c.in_ok-table.ensures in
     let found = c.in-Some-row_at-2.ensures in
-    let rows = c.in-Section.rows.now in
-    let s = c.in-Section.section in
-    rw (← (found.2)) (entry_given (section_table s rows) table.fields.0
-    (table.«data» ∙ sym (section_table_data s rows table.fields.1))
-    (section_at rows table.fields.1 s found.0 c.in-Some-row_at-2.row.now found.1) c.section_row.ensures)
+    let rows = c.in-Section.rows in
+    let n = c.in-Section.section in
+    rw (← (found.2)) (entry_given (fields.Section rows n) table.fields table.«data»
+    (λ s. section_at rows.now table.fields.1 n found.0 c.in-Some-row_at-2.row.now found.1)
+    (λ s. entry_enters c.section_row.ensures))
 
 pub returns-in-None-row_at-clause-data : goal.returns-in-None-row_at-clause-data
 returns-in-None-row_at-clause-data c =

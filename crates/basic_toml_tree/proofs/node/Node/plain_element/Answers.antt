@@ -1,7 +1,7 @@
 use Rattle.std.proofs.Common.{ap, refl, ◌∙◌, Some}
 use Rattle.basic_toml_read.specs.SectionView.{placed_of}
+use Rattle.basic_toml_read.proofs.ViewsSeen.{placed_is}
 use Rattle.basic_toml_tree.proofs.Nodes.NodesInOrder.{mapped_read}
-use Rattle.basic_toml_tree.proofs.Nodes.PlainNodes.{element_placed}
 use Rattle.basic_toml_tree.proofs.node.Node.plain_element.Goals as goal
 
 pub returns-clause-some : goal.returns-clause-some
@@ -11,6 +11,6 @@ returns-clause-some c =
     record {
       plain = _;
       spot = refl;
-      placed = mapped_read placed_of c.args.elements.now c.args.at e read.3.0 read.1 ∙ ap Some (element_placed e);
+      placed = mapped_read placed_of c.args.elements.now c.args.at e read.3.0 read.1 ∙ ap Some (placed_is e);
       beside = record { tree = refl; count = refl; spot = refl; outer = refl; trail = refl };
     }

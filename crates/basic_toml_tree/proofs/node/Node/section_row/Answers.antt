@@ -1,7 +1,7 @@
 use Rattle.std.proofs.Common.{ap, refl, sym, ◌∙◌}
 use Rattle.basic_toml_tree.specs.Nodes.{spot_data}
 use Rattle.basic_toml_grow.proofs.SectionTables.{row_child_origins, row_child_trie}
-use Rattle.basic_toml_tree.proofs.Nodes.PlainNodes.{value_comes}
+use Rattle.basic_toml_tree.proofs.Nodes.NodesStand.{value_comes}
 use Rattle.basic_toml_tree.proofs.Nodes.EntryNodes.{section_row_data}
 use Rattle.basic_toml_tree.proofs.node.Node.section_row.Goals as goal
 
