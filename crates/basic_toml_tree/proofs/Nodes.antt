@@ -4,7 +4,6 @@ pub mod NodesStand
 pub mod NodesCome
 pub mod MadeNodes
 pub mod RowNodesTold
-pub mod NodesOfValues
 pub mod PlacesTold
 pub mod Lines
 pub mod OuterStands

@@ -33,8 +33,7 @@ use Rattle.std.proofs.lemmas.Bool.{and_parts, false≢true}
 use Rattle.std.proofs.lemmas.Option.{get_or_from_slice_get, slice_get_within}
 use Rattle.std.proofs.lemmas.Simd.{map-map}
 use Rattle.basic_toml_read.specs.declared.section.Row.{Row, out-Row}
-use Rattle.basic_toml_plain.specs.Plain.{are_few_simple, are_simple, is_plain, key_of, plain_data, rows_data}
-use Rattle.basic_toml_plain.specs.Plain.{plain_table}
+use Rattle.basic_toml_plain.specs.Plain.{are_few_simple, is_plain, key_of, plain_data, rows_data, plain_table}
 use Rattle.basic_toml_plain.proofs.PlainLeft.{row_at}
 use Rattle.basic_toml_plain.proofs.SimpleKeys.{keys_differ}
 use Rattle.basic_toml_grow.specs.Item.{child_trie, item_trie, table_trie}
@@ -90,15 +89,13 @@ no_entry rows s n past = rw (entries_are s rows) (simp length-map past)
 
 -- simple rows: their values are plain, and each is an entry of the table that they stand for, whose keys differ
 module _ (rows : List Row) (simple : are_few_simple 0 rows ≡ true) where
-  rows_simple : are_simple 0 rows ≡ true
-  rows_simple = (and_parts _ _ simple).1
-
   pub plain_read : (n : ℕ) (r : Row) → slice_get rows n ≡ Some r → is_plain (out-Row r).value 0 ≡ true
   plain_read n r read =
-      row_at rows n r (slice_get_within _ _ _ read) (sym (get_or_from_slice_get rows n r r read)) rows_simple
+      row_at rows n r (slice_get_within _ _ _ read) (sym (get_or_from_slice_get rows n r r read))
+      (and_parts _ _ simple).1
 
   pub rows_differ : (s : ℕ) → IsTrue (are_distinct (keys_of (out-Table (section_table s rows)).entries))
-  rows_differ s = rw (entries_are s rows, map-map) (keys_differ 0 rows rows_simple)
+  rows_differ s = rw (entries_are s rows, map-map) (keys_differ 0 rows (and_parts _ _ simple).1)
 
   pub section_at : (s n : ℕ) (r : Row) → slice_get rows n ≡ Some r
       → value_at (out-Table (section_table s rows)).entries (key_of r) ≡ Some (child_of s r)

@@ -24,9 +24,9 @@ use Rattle.basic_toml_tree.specs.declared.spot.Spot.TheVariants as spots
 use Rattle.basic_toml_tree.specs.declared.trail.Trail.{Trail}
 use Rattle.basic_toml_grow.specs.Origins.{child_origins, along, rows_origins}
 use Rattle.basic_toml_tree.proofs.Nodes.NodesCome.{child_bears}
-use Rattle.basic_toml_tree.proofs.Nodes.NodesOfValues.{some_and, one_of, in_value, if_there, or_some}
+use Rattle.basic_toml_tree.proofs.Nodes.RowNodesTold.{some_and, one_of, in_value, if_there, or_some, no_clash, not_led}
+use Rattle.basic_toml_tree.proofs.Nodes.RowNodesTold.{rows_free, rows_keyed, some_both}
 use Rattle.basic_toml_tree.proofs.Nodes.OneSection.{entry_at}
-use Rattle.basic_toml_tree.proofs.Nodes.RowNodesTold.{no_clash, not_led, rows_free, rows_keyed, some_both}
 use Rattle.basic_toml_tree.specs.Headers.{keys_at}
 use Rattle.basic_toml_tree.specs.HeaderTables.{table_of}
 use Rattle.basic_toml_tree.specs.Origin.{header_of, spot_is_made, spot_section, item_section, holds_tables, trail_keys}

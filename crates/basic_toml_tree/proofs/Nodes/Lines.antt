@@ -1,33 +1,21 @@
 -- Rows as one list of lines, each with its whole path: which line a path leads to, and where the table around what
 -- stands there begins.
 use Rattle.std.proofs.Common.{arith, ◌≡◌, ℕ, Bool, true, false, List, [], ◌∷◌, ◌++◌, Option, Some, None, refl, ap, sym}
-use Rattle.std.proofs.Common.{◌∙◌, length, drop, ◌⊎◌, inl, inr, ◌&&◌, if◌then◌else◌, zero, suc}
-use Rattle.std.specs.List.{list_any, list_all}
+use Rattle.std.proofs.Common.{◌∙◌, length, drop, ◌⊎◌, inl, inr, ◌&&◌, if◌then◌else◌}
+use Rattle.std.specs.List.{list_any}
 use Rattle.std.proofs.Math.Bool.{and-false, and-true}
 use Rattle.std.proofs.Math.Seq.{drop-append_seam}
-use Rattle.std.proofs.lemmas.Bool.{false≢true, or_parts, or_right, cases_Bool, false_from_ne_true, and_parts}
-use Rattle.basic_toml_grammar.specs.Sections.{KeyTexts, Raw, Key, texts, Elements, no_elements, element, Rows, no_rows}
-use Rattle.basic_toml_grammar.specs.Sections.{row}
+use Rattle.std.proofs.lemmas.Bool.{false≢true, or_right, cases_Bool, false_from_ne_true, and_parts}
+use Rattle.basic_toml_grammar.specs.Sections.{KeyTexts, Raw}
 use Rattle.basic_toml_grammar.specs.Steps.{Step, key, number, Path, begins, overlap, steps_of}
-use Rattle.basic_toml_grammar.specs.Nodes.{Node, front, dotted_node, node_in, value_node, dotted_start, holder_in}
-use Rattle.basic_toml_grammar.specs.Nodes.{node_among, node_by}
-use Rattle.basic_toml_grammar.proofs.AmongElements.{Among, first, next, among_either}
+use Rattle.basic_toml_grammar.specs.Nodes.{Node, front, dotted_node, node_in}
+use Rattle.basic_toml_grammar.proofs.AmongElements.{Among, first, next}
 use Rattle.basic_toml_grammar.proofs.Clash.PathsAgree.{append_none}
 use Rattle.basic_toml_grammar.proofs.Clash.StepTestsDecide.{step_is, step_same, begins_itself}
 use Rattle.basic_toml_tree.specs.Outer.{no_keys, around}
 use Rattle.basic_toml_tree.specs.Stands.{is_root}
 use Rattle.basic_toml_tree.proofs.HeadersMake.{of_any}
 use Rattle.basic_toml_tree.proofs.Origins.RowsAreNodes.{goes_on}
-use Rattle.basic_toml_grammar.specs.SectionClash.{any_row_clashes}
-use Rattle.basic_toml_value.specs.Data.{Data}
-use Rattle.basic_toml_grammar.specs.RowClash.{any_overlaps, rows_clash, value_clashes, elements_clash}
-use Rattle.basic_toml_grammar.specs.IndexedPath.{Located}
-use Rattle.basic_toml_grammar.specs.Entering.{keyed_within, value_keyed, elements_keyed}
-use Rattle.basic_toml_grammar.specs.Mentions.{finished, row_mentions, mentions}
-use Rattle.basic_toml_grammar.specs.NamedClash.{first_key}
-use Rattle.basic_toml_grammar.specs.Tree.{Mention}
-use Rattle.basic_toml_grammar.proofs.Clash.ClashesAgree.{turn_eq}
-use Rattle.basic_toml_grammar.proofs.Nesting.TreeIsAsDeepAsMentions.{bars, barred_by, mention, Peace}
 
 -- a path that ends with a key
 abbrev is_key : Step → Bool
@@ -231,161 +219,3 @@ module _ (holder : Path → Option ℕ) (p : Path) where
           | inr y ↦ later e es n x free (found es rest (λ f a. fits f (next a)) n (rw (x, y) at is))
         ]
       ]
-
--- rows below a path, each with the key path that its nodes have
-abbrev pub lines_of : Path → (List Key → KeyTexts) → Rows → List Line
-lines_of base name no_rows = []
-lines_of base name (row ks at v rows) =
-    record { base = base; steps = texts ks; at = at; value = v; names = name ks } ∷ lines_of base name rows
-
-abbrev pub names_of : Located → List Key → KeyTexts
-names_of l ks = texts l.section.header ++ first_key ks
-
-abbrev pub all_lines : List Located → List Line
-all_lines [] = []
-all_lines (l ∷ ls) = lines_of l.path (names_of l) l.section.rows ++ all_lines ls
-
--- rows of one list do not meet
-rows_free : (name : List Key → KeyTexts) (p : Path) (rows : Rows) → any_overlaps p rows ≡ false → (f : Line)
-    → Among f (lines_of [] name rows) → overlap p (path_of f) ≡ false
-rows_free name p no_rows free f a = elim a [ ]
-rows_free name p (row ks at v rows) free f first = (or_parts _ _ free).0
-rows_free name p (row ks at v rows) free f (next a) = rows_free name p rows (or_parts _ _ free).1 f a
-
-rows_apart : (name : List Key → KeyTexts) (rows : Rows) → rows_clash rows ≡ false → Apart (lines_of [] name rows)
-rows_apart name no_rows free = Apart.none
-rows_apart name (row ks at v rows) free =
-    let split = or_parts _ _ free in
-    Apart.more (rows_free name (steps_of (texts ks)) rows (or_parts _ _ split.0).0) (rows_apart name rows split.1)
-
--- the rows of an inline table, as lines
-by_lines : (names : KeyTexts) (outer : Option ℕ) (all rows : Rows) (p : Path)
-    → node_by names outer all rows p ≡ choose (holder_in outer all) (lines_of [] (λ ks. names) rows) p
-by_lines names outer all no_rows p = refl
-by_lines names outer all (row ks at v rows) p = rw (by_lines names outer all rows p) refl
-
-starts_by_lines : (name : List Key → KeyTexts) (rows : Rows) (p : Path)
-    → dotted_start rows p ≡ start_among (lines_of [] name rows) p
-starts_by_lines name no_rows p = refl
-starts_by_lines name (row ks at v rows) p = rw (starts_by_lines name rows p) refl
-
--- what is known of a line, by the rows below a path
-pub record IsRow (base : Path) (rows : Rows) (e : Line) : Type 0 where
-  pub table : e.base ≡ base
-  pub past : begins (path_of e) base ≡ false
-  pub ends : ends_key (path_of e) ≡ true
-  pub told : ValueOuter e.value
-  pub off : (j : Located) → any_row_clashes base rows j ≡ false → begins (path_of e) j.path ≡ false
-
--- a node of an inline table
-module _ (names : KeyTexts) (outer : Option ℕ) (at : ℕ) (rows : Rows) (k : List ℕ) (p : Path) (n : Node) where
-  of_inline : Found (holder_in (Some at) rows) (key k ∷ p) (lines_of [] (λ ks. names) rows) n
-      → OuterOf (node_in names outer at (Raw.inline rows)) outer (key k ∷ p) n
-  of_inline (within m l a ends here chosen same) = elim (cases_Bool (no_keys p)) [
-    | inl e ↦ absurd (false≢true (sym (begun (path_of l) [] ends (rw e at here))))
-    | inr e ↦ inr (refl, m, rw e (by_lines names (Some at) rows rows (key k ∷ around p) ∙ (rw e at chosen)), same)
-  ]
-  of_inline (by_rows m chosen start same) = elim (cases_Bool (no_keys p)) [
-    | inl e ↦ inr (refl, value_node names outer at (Raw.inline rows), rw e refl, rw e at same)
-    | inr e ↦ inr (
-      refl,
-      m,
-      rw e (by_lines names (Some at) rows rows (key k ∷ around p) ∙ (rw e at chosen)),
-      (rw e at same) ∙ starts_by_lines (λ ks. names) rows (key k ∷ around p) ∙ sym (rw e at start),
-    )
-  ]
-
--- the outer offsets of the nodes in a value
-mutual
-  value_outer : (v : Raw) → value_clashes v ≡ false → value_keyed v ≡ true → ValueOuter v
-  value_outer v free keyed names outer at [] n is =
-      let same : value_node names outer at v ≡ n = cc in inl (refl, rw (← same) refl)
-  value_outer (Raw.array es) free keyed names outer at (number i ∷ x) n is =
-      elim (elements_outer es free keyed names outer i x n is) [
-        | inl bare ↦ inl bare
-        | inr deep ↦ inr (deep.0, deep.1, rw (deep.0) deep.2, deep.3)
-      ]
-  value_outer (Raw.inline rows) free keyed names outer at (key k ∷ x) n is =
-      of_inline names outer at rows k x n
-      (found (holder_in (Some at) rows) (key k ∷ x) (lines_of [] (λ ks. names) rows)
-      (rows_apart (λ ks. names) rows free) (λ e a. let r = rows_are [] (λ ks. names) rows free keyed a in
-      record { ends = r.ends; told = r.told; off = rw (r.table) refl }) n
-      (sym (by_lines names (Some at) rows rows (key k ∷ x)) ∙ is))
-  value_outer v free keyed names outer at x n is = absurd (cc)
-
-  elements_outer : (es : Elements) → elements_clash es ≡ false → elements_keyed es ≡ true → (names : KeyTexts)
-      (outer : Option ℕ) (i : ℕ) (x : Path) (n : Node) → node_among names outer es i x ≡ Some n
-      → OuterOf (node_among names outer es i) outer x n
-  elements_outer no_elements free keyed names outer i x n is = absurd (cc)
-  elements_outer (element at v es) free keyed names outer zero x n is =
-      value_outer v (or_parts _ _ free).0 (and_parts _ _ keyed).0 names outer at x n is
-  elements_outer (element at v es) free keyed names outer (suc i) x n is =
-      elements_outer es (or_parts _ _ free).1 (and_parts _ _ keyed).1 names outer i x n is
-
-  rows_are : {e : Line} (base : Path) (name : List Key → KeyTexts) (rows : Rows) → rows_clash rows ≡ false
-      → keyed_within rows ≡ true → Among e (lines_of base name rows) → IsRow base rows e
-  rows_are base name no_rows free keyed a = elim a [ ]
-  rows_are base name (row [] at v rows) free keyed a = absurd (false≢true keyed)
-  rows_are base name (row (k ∷ ks) at v rows) free keyed first = record {
-    table = refl;
-    past = false_from_ne_true _ (no_longer base (key k.text) (steps_of (texts ks)));
-    ends = keys_end base k.text (texts ks);
-    told = value_outer v (or_parts _ _ (or_parts _ _ free).0).1 (and_parts _ _ keyed).0;
-    off = λ j none. (or_parts _ _ (or_parts _ _ none).0).0;
-  }
-  rows_are base name (row (k ∷ ks) at v rows) free keyed (next a) =
-      let more = rows_are base name rows (or_parts _ _ free).1 (and_parts _ _ keyed).1 a in
-      record {
-        table = more.table;
-        past = more.past;
-        ends = more.ends;
-        told = more.told;
-        off = λ j none. more.off j (or_parts _ _ none).1;
-      }
-
--- a line of all sections is a row of one of them
-pub lines_are : {e : Line} (ls : List Located) → list_any (λ l. rows_clash l.section.rows) ls ≡ false
-    → list_all (λ l. keyed_within l.section.rows) ls ≡ true → Among e (all_lines ls)
-    → (l : Located) × Among l ls × IsRow l.path l.section.rows e
-lines_are [] free keyed a = elim a [ ]
-lines_are (l ∷ ls) free keyed a =
-    let f = or_parts _ _ free in
-    let k = and_parts _ _ keyed in
-    elim (among_either (lines_of l.path (names_of l) l.section.rows) (all_lines ls) a) [
-      | inl a ↦ (l, first, rows_are l.path (names_of l) l.section.rows f.0 k.0 a)
-      | inr a ↦ let more = lines_are ls f.1 k.1 a in (more.0, next more.1, more.2)
-    ]
-
--- where mentions are in peace, their rows do not meet
-overlap_barred : (p q : Path) (d c : Data) → overlap p q ≡ true → bars p (Some d) q (Some c) ≡ true
-overlap_barred [] q d c e = refl
-overlap_barred (s ∷ p) [] d c e = refl
-overlap_barred (s ∷ p) (t ∷ q) d c e = grind (arith, turn_eq t s, overlap_barred p q d c)
-
-abbrev mention_of : Line → Mention
-mention_of e = mention (path_of e) (Some (finished e.value))
-
-mentioned : {e : Line} (base : Path) (name : List Key → KeyTexts) (rows : Rows) (ls : List Located)
-    → (Among e (all_lines ls) → Among (mention_of e) (mentions ls))
-    → Among e (lines_of base name rows ++ all_lines ls) → Among (mention_of e) (row_mentions base rows ++ mentions ls)
-mentioned base name no_rows ls rest a = rest a
-mentioned base name (row ks at v rows) ls rest first = first
-mentioned base name (row ks at v rows) ls rest (next a) = next (mentioned base name rows ls rest a)
-
-all_mentioned : {e : Line} (ls : List Located) → Among e (all_lines ls) → Among (mention_of e) (mentions ls)
-all_mentioned [] a = elim a [ ]
-all_mentioned (l ∷ ls) a = next (mentioned l.path (names_of l) l.section.rows ls (all_mentioned ls) a)
-
-apart_rows : (base : Path) (name : List Key → KeyTexts) (rows : Rows) (ls : List Located)
-    → (Peace (mentions ls) → Apart (all_lines ls))
-    → Peace (row_mentions base rows ++ mentions ls) → Apart (lines_of base name rows ++ all_lines ls)
-apart_rows base name no_rows ls rest peace = rest peace
-apart_rows base name (row ks at v rows) ls rest (Peace.more e peace) =
-    Apart.more (λ f a. false_from_ne_true _ (λ on. false≢true (sym (none_passes (barred_by _) e
-    (mentioned base name rows ls (all_mentioned ls) a))
-    ∙ overlap_barred (base ++ steps_of (texts ks)) (path_of f) _ _ on))) (apart_rows base name rows ls rest peace)
-
-pub apart_all : (ls : List Located) → Peace (mentions ls) → Apart (all_lines ls)
-apart_all [] peace = Apart.none
-apart_all (l ∷ ls) (Peace.more e peace) =
-    apart_rows l.path (names_of l) l.section.rows ls (apart_all ls) peace

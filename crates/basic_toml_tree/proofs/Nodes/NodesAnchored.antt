@@ -22,7 +22,7 @@ use Rattle.basic_toml_tree.specs.Stands.{IsNodeAt, is_root, spot_trie}
 use Rattle.basic_toml_tree.proofs.Foretold.NodesForetold.{made_foretold, start_foretold}
 use Rattle.basic_toml_tree.proofs.Nodes.KeysTold.{any_count, made_leads}
 use Rattle.basic_toml_tree.proofs.Nodes.MadeNodes.{is_told}
-use Rattle.basic_toml_tree.proofs.Nodes.NodesOfValues.{some_and}
+use Rattle.basic_toml_tree.proofs.Nodes.RowNodesTold.{some_and}
 
 no_steps : (p : Path) → is_root p ≡ true → p ≡ []
 no_steps p root = grind arith

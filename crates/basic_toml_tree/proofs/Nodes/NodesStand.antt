@@ -17,7 +17,7 @@ use Rattle.basic_toml_tree.specs.declared.tree.Tree.{Tree}
 use Rattle.basic_toml_tree.specs.declared.node.Node.{Node}
 use Rattle.basic_toml_tree.specs.declared.spot.Spot.{Spot}
 use Rattle.basic_toml_tree.specs.declared.spot.Spot.TheVariants as spots
-use Rattle.basic_toml_tree.specs.Stands.{trie_at, tree_trie, spot_trie, wraps_table, is_root, StandsAt, StandsOn, AtKey}
+use Rattle.basic_toml_tree.specs.Stands.{trie_at, tree_trie, spot_trie, wraps_table, is_root, StandsAt, AtKey}
 use Rattle.basic_toml_tree.specs.Stands.{IsBeside, ComesFrom, node_origins, AtNumber, StartIsKept, IsPlainElement}
 use Rattle.basic_toml_tree.specs.Stands.{spot_origins, SpotComes}
 use Rattle.basic_toml_tree.proofs.Nodes.KeysLead.{KeepsKeys, keys_beside}
@@ -42,7 +42,7 @@ use Rattle.basic_toml_read.specs.declared.section.Rows as code_rows
 use Rattle.basic_toml_tree.specs.declared.plain_value.PlainValue.{PlainValue}
 use Rattle.basic_toml_tree.specs.Nodes as seen
 use Rattle.basic_toml_tree.specs.Origin.{is_string}
-use Rattle.basic_toml_tree.proofs.Nodes.NodesOfValues.{if_there}
+use Rattle.basic_toml_tree.proofs.Nodes.RowNodesTold.{if_there}
 use Rattle.basic_toml_plain.specs.PlainTables.{SectionTable, SectionTables, tables_in}
 use Rattle.basic_toml_plain.specs.Values.{section_data}
 use Rattle.basic_toml_plain.proofs.RowsData.{few_data}
@@ -181,19 +181,6 @@ pub no_array_root : (from : Node) (tree : Tree) (p : Path) → StandsAt tree p f
 no_array_root from tree (s ∷ p) stands array = refl
 no_array_root from tree [] stands array = grind (arith, stands.there, table_entries_trie tree.root)
 
--- A node beside an array, with the keys of it and the same table around, is that of an element.
-pub beside_stands : (from node : Node) (here : Spot) (n : ℕ) → IsBeside from here node
-    → tells_table (spot_trie from.spot) ≡ false → slice_get (elements_in (node_data from)) n ≡ Some (node_data node)
-    → (wraps_table from.spot ≡ false → StepsOn from (number n) node)
-    → ((node.count == 0) ≡ false → (s : ℕ) → ComesFrom (λ q. node_origins s from (number n ∷ q)) node)
-    → StandsOn from (number n) node
-beside_stands from node here n beside array read more comes tree p stands =
-    let counted : (node.count == 0) ≡ false =
-    ap (λ c. c == 0) beside.count ∙ stands.root ∙ no_array_root from tree p stands array in
-    stands_on from node (number n) beside.tree read more (comes counted) tree p stands counted
-    (rw (around_number p n, beside.outer) stands.outer)
-    (keys_beside from node here n beside tree p stands)
-
 -- what is answered for a number of an array, with what is said of the number
 abbrev pub GivenElement : Type 0 → Node → ℕ → Option Node → Type 0
 GivenElement fits from n result = record {
@@ -201,6 +188,22 @@ GivenElement fits from n result = record {
   «data» : MatchOption result (length (elements_in (node_data from)) ≤ n)
       (λ node. slice_get (elements_in (node_data from)) n ≡ Some (node_data node));
   stands : IfSome result (AtNumber from n);
+}
+
+-- A node beside an array, with the keys of it and the same table around, is that of an element.
+pub beside_given : {fits : Type 0} (from node : Node) (here : Spot) (n : ℕ) → IsBeside from here node
+    → tells_table (spot_trie from.spot) ≡ false → slice_get (elements_in (node_data from)) n ≡ Some (node_data node)
+    → (wraps_table from.spot ≡ false → StepsOn from (number n) node)
+    → ((node.count == 0) ≡ false → (s : ℕ) → ComesFrom (λ q. node_origins s from (number n ∷ q)) node)
+    → fits → GivenElement fits from n (Some node)
+beside_given from node here n beside array read more comes within = record {
+  within = within;
+  «data» = read;
+  stands = λ tree p stands.
+      let counted : (node.count == 0) ≡ false =
+      ap (λ c. c == 0) beside.count ∙ stands.root ∙ no_array_root from tree p stands array in
+      stands_on from node (number n) beside.tree read more (comes counted) tree p stands counted
+      (rw (around_number p n, beside.outer) stands.outer) (keys_beside from node here n beside tree p stands);
 }
 
 -- that of plain values
@@ -218,12 +221,8 @@ plain_given from es n (Some node) is here origins told =
     let some = told.some in
     let read : slice_get (elements_in (node_data from)) n ≡ Some (node_data node) =
     rw (is, some.spot) (plain_read es n node.start (raw_of some.plain.value.now) some.placed) in
-    record {
-      within = told.within;
-      «data» = read;
-      stands = beside_stands from node node.spot n some.beside (ap tells_table here) read
-          (λ own. inl (ap (below (number n)) here)) (λ counted. element_comes from node es n some origins);
-    }
+    beside_given from node node.spot n some.beside (ap tells_table here) read
+    (λ own. inl (ap (below (number n)) here)) (λ counted. element_comes from node es n some origins) told.within
 
 -- and that of other items
 pub literal_given : {fits : Type 0} (from node : Node) (n : ℕ) (b : Bor Item) → from.spot ≡ spots.Item b
@@ -233,17 +232,13 @@ pub literal_given : {fits : Type 0} (from node : Node) (n : ℕ) (b : Bor Item) 
 literal_given from node n b at children spot child is there same beside comes within =
     let read : slice_get (elements_in (node_data from)) n ≡ Some (node_data node) =
     rw (at, is, array_elements children, same) (read_mapped child_data children.items n child there) in
-    record {
-      within = within;
-      «data» = read;
-      stands = beside_stands from node spot n beside (rw (at, is) (search (rules, the_lemmas))) read
-          (λ own. inl (rw (at, is) (search (rules, the_lemmas)))) (λ counted s. comes_alike (λ q. rw (
-            at,
-            is,
-            array_seen children from.start s,
-            read_mapped child_origins children.items n child there,
-          ) refl) comes);
-    }
+    beside_given from node spot n beside (rw (at, is) (search (rules, the_lemmas))) read
+    (λ own. inl (rw (at, is) (search (rules, the_lemmas)))) (λ counted s. comes_alike (λ q. rw (
+      at,
+      is,
+      array_seen children from.start s,
+      read_mapped child_origins children.items n child there,
+    ) refl) comes) within
 
 find_number : (k n m : ℕ) (ts : List Trie) (u : Trie) → m ≡ k + n → slice_get ts n ≡ Some u
     → find (number m) (by_numbers k ts) ≡ u
@@ -259,11 +254,10 @@ pub record TableAmong (i : Item) (n : ℕ) (t : Table) : Type 0 where
   pub origins : (at s : ℕ) (q : Path) → item_origins i at s (number n ∷ q) ≡ of_table at s (table_within t) q
 
 -- what is read of the earlier ones and the latest
-module _ {A B : Type 0} (f : A → B) (earlier : List A) (latest : A) (n : ℕ) (x : A)
-    (read : slice_get (earlier ++ latest ∷ []) n ≡ Some x) where
-  mapped : slice_get (map f earlier ++ f latest ∷ []) n ≡ Some (f x)
-  mapped =
-      rw (map-append f earlier (latest ∷ [])) at (read_mapped f (earlier ++ latest ∷ []) n x read)
+mapped : {A B : Type 0} (f : A → B) (earlier : List A) (latest : A) (n : ℕ) (x : A)
+    → slice_get (earlier ++ latest ∷ []) n ≡ Some x → slice_get (map f earlier ++ f latest ∷ []) n ≡ Some (f x)
+mapped f earlier latest n x read =
+    rw (map-append f earlier (latest ∷ [])) at (read_mapped f (earlier ++ latest ∷ []) n x read)
 
 pub table_among : (tables : Box (Vec Table Global × Table) Global) (n : ℕ) (t : Table)
     → slice_get (tables.value.0.items ++ tables.value.1 ∷ []) n ≡ Some t → TableAmong (Tables tables) n t
@@ -311,11 +305,7 @@ table_given from node n b t at i is among beside start within =
     rw (at, is, beside.spot) among.is_data in
     let there : spot_trie node.spot ≡ below (number n) (spot_trie from.spot) =
     rw (at, is, beside.spot) (sym among.is_trie) in
-    record {
-      within = within;
-      «data» = read;
-      stands = beside_stands from node (spots.Table t) n beside (rw (at, is) among.tables) read
-          (λ own. inr (there, ap wraps_table beside.spot)) (λ counted s. rw (beside.spot, start) (comes_alike
-          (λ q. rw (at, is) (among.origins from.start s q))
-          (table_comes (table_of t) t node.count from.start s refl counted)));
-    }
+    beside_given from node (spots.Table t) n beside (rw (at, is) among.tables) read
+    (λ own. inr (there, ap wraps_table beside.spot)) (λ counted s. rw (beside.spot, start) (comes_alike
+    (λ q. rw (at, is) (among.origins from.start s q))
+    (table_comes (table_of t) t node.count from.start s refl counted))) within

@@ -4,7 +4,7 @@ use Rattle.std.proofs.Common.{◌≡◌, ◌⊎◌, inl, inr, ℕ, true, false, 
 use Rattle.std.proofs.Common.{◌∙◌, arith, ◌+◌, zero, suc, Bool, ap, slice_get, append_assoc, length, drop, is_some}
 use Rattle.std.proofs.lemmas.Bool.{false≢true, and_parts, or_parts, cases_Bool}
 use Rattle.basic_toml_grammar.specs.Sections.{KeyTexts, texts, Raw, Rows, no_rows, Key, row}
-use Rattle.basic_toml_grammar.specs.Steps.{Step, key, Path, step_eq, begins, steps_of, number}
+use Rattle.basic_toml_grammar.specs.Steps.{Step, key, Path, step_eq, begins, steps_of}
 use Rattle.basic_toml_grammar.specs.IndexedPath.{Located}
 use Rattle.basic_toml_grammar.specs.SectionClash.{row_crossed, any_row_clashes, without_last_number, target, same_path}
 use Rattle.basic_toml_grammar.specs.SectionClash.{any_pair, clashes, clashes_one_way}
@@ -137,8 +137,7 @@ pairs_apart none (next a) (next b) = pairs_apart (or_parts _ _ none).1 a b
 kept_whole : (w : Path) (u : Step) (b : Path) (ks : KeyTexts) → begins (u ∷ b) (steps_of ks) ≡ true
     → without_last_number (w ++ u ∷ b) ≡ w ++ u ∷ b
 kept_whole [] u b [] on = absurd (false≢true on)
-kept_whole [] (key k) [] (l ∷ ks) on = refl
-kept_whole [] (number n) [] (l ∷ ks) on = absurd (false≢true on)
+kept_whole [] u [] (l ∷ ks) on = grind arith
 kept_whole [] u (t ∷ b) (l ∷ ks) on = ap (λ p. u ∷ p) (kept_whole [] t b ks (and_parts _ _ on).1)
 kept_whole (s ∷ []) u b ks on = ap (λ p. s ∷ p) (kept_whole [] u b ks on)
 kept_whole (s ∷ v ∷ w) u b ks on = ap (λ p. s ∷ p) (kept_whole (v ∷ w) u b ks on)

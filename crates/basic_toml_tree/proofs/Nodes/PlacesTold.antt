@@ -1,7 +1,7 @@
 -- The offset that names a node in errors, by the section list: where the node begins, but for an array the outer
 -- offset.
-use Rattle.std.proofs.Common.{arith, ◌≡◌, ◌⊎◌, inl, inr, ℕ, Bool, true, false, List, [], ◌∷◌, Option, refl, ap, sym}
-use Rattle.std.proofs.Common.{◌∙◌, rules, codes, ◌++◌, IfSome, bytes_eq}
+use Rattle.std.proofs.Common.{if◌then◌else◌, arith, ◌≡◌, ℕ, Bool, false, List, [], ◌∷◌, Option, ap, refl, sym, ◌∙◌}
+use Rattle.std.proofs.Common.{rules, codes, ◌++◌, IfSome, bytes_eq}
 use Rattle.std.specs.Option.{option_or}
 use Rattle.basic_toml_grammar.specs.Sections.{KeyTexts, texts, Raw, Rows, no_rows, row, Section}
 use Rattle.basic_toml_grammar.specs.Steps.{Path, begins, steps_of}
@@ -20,21 +20,18 @@ use Rattle.basic_toml_tree.specs.declared.spot.Spot.{Spot}
 use Rattle.basic_toml_tree.specs.declared.spot.Spot.TheVariants as spots
 use Rattle.basic_toml_tree.specs.Origin.{is_array_literal, spot_name, spot_is_made, start_of, outer_of, offset_of}
 use Rattle.basic_toml_tree.specs.Origin.{raw_is_array, last_at as tree_last}
-use Rattle.basic_toml_tree.proofs.Nodes.NodesOfValues.{one_of, in_value, or_some}
-use Rattle.basic_toml_tree.proofs.Nodes.RowNodesTold.{RowTold}
+use Rattle.basic_toml_tree.proofs.Nodes.RowNodesTold.{one_of, in_value, or_some, RowTold}
 
 abbrev names_array : List ℕ → Bool
 names_array name = bytes_eq name (codes "array")
 
 -- the offset of an array is the outer one, and that of anything else where it begins
 abbrev pub Plain : Node → Type 0
-Plain n =
-    ((names_array n.type_name ≡ true) × (n.offset ≡ n.outer_offset))
-    ⊎ ((names_array n.type_name ≡ false) × (n.offset ≡ n.start))
+Plain n = n.offset ≡ (if names_array n.type_name then n.outer_offset else n.start)
 
 value_plain : (keys : KeyTexts) (outer : Option ℕ) (at : ℕ) (v : Raw) → Plain (value_node keys outer at v)
-value_plain keys outer at (Raw.array z) = inl (refl, refl)
-value_plain keys outer at v = inr (refl, refl)
+value_plain keys outer at (Raw.array z) = refl
+value_plain keys outer at v = refl
 
 rows_plain : (ls : List Located) (last : Option ℕ) (l : Located) (rows : Rows) (p : Path)
     → IfSome (node_of_rows ls last l rows p) Plain
@@ -43,8 +40,8 @@ rows_plain ls last l (row ks at v rows) p =
     let path = l.path ++ steps_of (texts ks) in
     let key_path = texts l.section.header ++ first_key ks in
     one_of (begins path p) (begins p path) _ _ Plain
-    (λ _. in_value key_path Plain (value_plain key_path) (λ outer at. inr (refl, refl)) _ at v _)
-    (λ _. inr (refl, refl)) (rows_plain ls last l rows p)
+    (λ _. in_value key_path Plain (value_plain key_path) (λ outer at. refl) _ at v _) (λ _. refl)
+    (rows_plain ls last l rows p)
 
 sections_plain : (ls : List Located) (last : Option ℕ) (later : List Located) (p : Path)
     → IfSome (node_of_sections ls last later p) Plain

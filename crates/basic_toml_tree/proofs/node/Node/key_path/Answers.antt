@@ -1,4 +1,5 @@
-use Rattle.std.proofs.Common.{◌≡◌, refl, map, string_bytes, rules, ◌++◌, ◌∷◌, []}
+use Rattle.std.proofs.Common.{arith, ◌≡◌, refl, map, string_bytes, ◌∷◌, []}
+use Rattle.std.proofs.lemmas.Grind.{common_steps}
 use Rattle.std.proofs.lemmas.List.{take-map, map-append}
 use Rattle.basic_toml_tree.specs.Origin.{keys_of}
 use Rattle.basic_toml_tree.proofs.Foretold.NodesForetold.{keys_foretold}
@@ -21,18 +22,6 @@ returns-in_ok-path-in-Header c =
 pub returns-in_ok-push-in-Row-clause-foretold : goal.returns-in_ok-push-in-Row-clause-foretold
 unfolding keys_of
 returns-in_ok-push-in-Row-clause-foretold c =
-    let path = c.in_ok-path-in-Row.path.items in
-    let last = c.in_ok-from_str-in-Row.field-0 in
-    let items : c.push.new.self.items ≡ c.in_ok-path-in-Row.path.items ++ c.in_ok-from_str-in-Row.field-0 ∷ [] =
-    search (rules) in
-    let text : string_bytes c.in_ok-from_str-in-Row.field-0 ≡ c.in-Row.first.now = search (rules) in
-    let same : map string_bytes c.push.new.self.items ≡ keys_of c.args.self =
-    rw (
-      items,
-      c.in-Row.is,
-      map-append string_bytes path (last ∷ []),
-      c.in_ok-path-in-Row.ensures,
-      c.keys-in-Row.ensures,
-      text,
-    ) refl in
+    let more = map-append string_bytes c.in_ok-path-in-Row.path.items (c.in_ok-from_str-in-Row.field-0 ∷ []) in
+    let same : map string_bytes c.push.new.self.items ≡ keys_of c.args.self = grind (arith, common_steps, more) in
     keys_foretold _ c.args.self same
