@@ -33,7 +33,8 @@ use Rattle.basic_toml_tree.specs.Origin.{header_of, spot_is_made, spot_section, 
 use Rattle.basic_toml_tree.specs.Origin.{keys_of as kept_keys}
 use Rattle.basic_toml_origin.specs.Anchor.{LeadsTo}
 use Rattle.basic_toml_tree.specs.Resolve.{IsResolved, head}
-use Rattle.basic_toml_tree.specs.Stands.{tree_trie, is_root, StandsAt, IsNodeAt, tree_origins, ComesFrom, IsBelow}
+use Rattle.basic_toml_tree.specs.Stands.{trie_at, tree_trie, is_root, StandsAt, IsNodeAt, tree_origins, ComesFrom}
+use Rattle.basic_toml_tree.specs.Stands.{IsBelow}
 use Rattle.basic_toml_tree.specs.Keys.{header_at, Leads, KeepsHeader, CountsKeys, KeysLead, CountsOn, KeepsRow, GoesOn}
 use Rattle.basic_toml_tree.specs.Keys.{RowsLead, BeginsRow, HandsOn}
 use Rattle.basic_toml_tree.proofs.Nodes.KeysLead.{KeepsKeys, made_before, rows_on}
@@ -41,12 +42,11 @@ use Rattle.basic_toml_tree.specs.Data.{child_data, table_data}
 use Rattle.basic_toml_tree.specs.Nodes.{node_data, data_among, listed}
 use Rattle.basic_toml_tree.specs.Outer.{kept_below}
 use Rattle.basic_toml_tree.proofs.Nodes.MadeNodes.{made_at, made_in_trie, spot_made}
-use Rattle.basic_toml_tree.proofs.Nodes.NodesStand.{Further, no_root}
+use Rattle.basic_toml_tree.proofs.Nodes.NodesStand.{IsOf, no_root}
 use Rattle.std.specs.List.{list_any, list_all}
 use Rattle.basic_toml_grammar.specs.RowClash.{rows_clash}
 use Rattle.basic_toml_grammar.specs.Entering.{keyed_within}
 use Rattle.basic_toml_grammar.specs.NamedClash.{first_key}
-use Rattle.basic_toml_grammar.specs.Nodes.{node_of_rows, node_of_sections}
 use Rattle.basic_toml_grammar.proofs.Clash.StepTestsDecide.{step_is}
 use Rattle.basic_toml_tree.proofs.Origins.RowsAreNodes.{begins_on, goes_from, rows_apart, section_same}
 use Rattle.basic_toml_value.specs.Data.{Data, Items, no_items, item, Members, no_members, member}
@@ -93,7 +93,7 @@ module _ (ls : List Located) (last : Option ℕ) (l : Located) (r : Step) (q : P
   FromRow m = (k : List ℕ) × (r ≡ key k) × (m.key_path ≡ texts l.section.header ++ k ∷ [])
 
   rows_keep : (rows : Rows) → keyed_within rows ≡ true
-      → IfSome (node_of_rows ls last l rows (l.path ++ r ∷ q)) FromRow
+      → IfSome (grammar.node_of_rows ls last l rows (l.path ++ r ∷ q)) FromRow
   rows_keep no_rows keyed = tt
   rows_keep (row [] at v rows) keyed = absurd (false≢true keyed)
   rows_keep (row (k ∷ ks) at v rows) keyed =
@@ -122,14 +122,15 @@ GivenBy later p m = (n : ℕ) × (l : Located) × (slice_get later n ≡ Some l)
 pub sections_give : (ls : List Located) (last : Option ℕ) (later : List Located) (p : Path)
     → list_any (λ l. begins p l.path) later ≡ false → list_any (λ l. rows_clash l.section.rows) later ≡ false
     → list_all (λ l. keyed_within l.section.rows) later ≡ true
-    → IfSome (node_of_sections ls last later p) (GivenBy later p)
+    → IfSome (grammar.node_of_sections ls last later p) (GivenBy later p)
 sections_give ls last [] p back apart keyed = tt
 sections_give ls last (l ∷ later) p back apart keyed =
     let b = or_parts _ _ back in
     let a = or_parts (rows_clash l.section.rows) (list_any (λ l. rows_clash l.section.rows) later) apart in
     let k = and_parts _ _ keyed in
-    let node = node_of_rows ls last l l.section.rows p in
-    or_some node (node_of_sections ls last later p) (GivenBy (l ∷ later) p) (elim (goes_from ls last l 0 l.path p b.0) [
+    let node = grammar.node_of_rows ls last l l.section.rows p in
+    let more = grammar.node_of_sections ls last later p in
+    or_some node more (GivenBy (l ∷ later) p) (elim (goes_from ls last l 0 l.path p b.0) [
       | inl x ↦ some_both node (rw (← (x.2)) at (rows_keep ls last l x.0 x.1 l.section.rows k.0))
           (if_there node (λ m is. grind (arith, is, section_same ls last l 0 p b.0 a.0 k.0)))
           (λ m row told. (
@@ -146,7 +147,7 @@ sections_give ls last (l ∷ later) p back apart keyed =
           ))
       | inr not ↦ rw (rows_apart ls last l 0 l.section.rows p not b.0) tt
     ])
-    (IfSome_then (node_of_sections ls last later p) (sections_give ls last later p b.1 a.1 k.1)
+    (IfSome_then more (sections_give ls last later p b.1 a.1 k.1)
     (λ m given. (suc given.0, given.1, given.2, given.3)))
 
 -- the keys of a header's path are the header
@@ -192,7 +193,7 @@ header_leads sections tree resolved n p leads =
 
 -- a node one step on from a table, where headers made something
 made_below : (sections : List Section) (tree : Tree) → IsResolved sections tree → (p : Path) (k : List ℕ)
-    (node : Node) → Further tree (p ++ key k ∷ []) node
+    (node : Node) → IsOf (trie_at (p ++ key k ∷ []) (tree_trie tree)) node
     → grammar.is_made (located sections) (p ++ key k ∷ []) ≡ true → spot_is_made 1 node.spot ≡ true
 made_below sections tree resolved p k node there made =
     let stands = sym (made_in_trie sections (tree_trie tree) resolved.stands (p ++ key k ∷ []) (no_root p (key k)))
@@ -254,7 +255,7 @@ pub record Enters (from : Node) (k : List ℕ) (c : Child) (node : Node) : Type 
 -- what is kept of the keys that lead there
 module _ {from node : Node} {k : List ℕ} {c : Child} (is : Enters from k c node) (tree : Tree) (p : Path)
     (stands : StandsAt tree p from) (here : tree_origins tree (p ++ key k ∷ []) ≡ child_origins c []) where
-  header_keeps : Further tree (p ++ key k ∷ []) node → KeysLead tree (p ++ key k ∷ []) node
+  header_keeps : IsOf (trie_at (p ++ key k ∷ []) (tree_trie tree)) node → KeysLead tree (p ++ key k ∷ []) node
   header_keeps there sections resolved made =
       let path = p ++ key k ∷ [] in
       let above = made_before (located sections) p (key k) made in
@@ -280,7 +281,7 @@ module _ {from node : Node} {k : List ℕ} {c : Child} (is : Enters from k c nod
       any_count node.spot node.count is.below.count ∙ sym (ap (λ o. o.made) (own apart)) ∙ apart in
       rw (bears apart, ← same, ← keys, ← within) (row kept.section kept.trail spot))))
 
-  pub key_keeps : Further tree (p ++ key k ∷ []) node → KeepsKeys tree (p ++ key k ∷ []) node
+  pub key_keeps : IsOf (trie_at (p ++ key k ∷ []) (tree_trie tree)) node → KeepsKeys tree (p ++ key k ∷ []) node
   key_keeps there = (count_keeps from node k is.count tree p stands, header_keeps there, row_keeps)
 
 -- the keys that a node keeps of what headers made

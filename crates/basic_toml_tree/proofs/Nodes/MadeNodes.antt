@@ -1,7 +1,6 @@
 -- What headers made, as the tree has it and as the section list foretells it.
 use Rattle.std.proofs.Common.{arith, ◌≡◌, inl, inr, ◌==◌, ℕ, Bool, true, false, List, [], ◌∷◌, refl, ap, sym, ◌∙◌, map}
 use Rattle.std.proofs.Common.{codes, if◌then◌else◌}
-use Rattle.std.proofs.lemmas.Bool.{false≢true}
 use Rattle.basic_toml_grammar.specs.Sections.{Section}
 use Rattle.basic_toml_grammar.specs.Steps.{Path}
 use Rattle.basic_toml_grammar.specs.IndexedPath.{located}
@@ -37,7 +36,7 @@ none_below (s ∷ p) = none_below p
 -- what the trie of sections tells of a path
 pub made_in_trie : (sections : List Section) (t : Trie) → Stands sections t → (p : Path) → is_root p ≡ false
     → grammar.is_made (located sections) p ≡ stands_made (standing (trie_at p t))
-made_in_trie sections t stands [] below = absurd (false≢true (sym below))
+made_in_trie sections t stands [] below = absurd (cc)
 made_in_trie sections t (inl put) (s ∷ p) below =
     let st = marks_put sections t put in
     rw (same_way (s ∷ p) t, st.2, standing_of st.0 (s ∷ p)) (made_is sections st.0 st.1 s p)
@@ -67,7 +66,7 @@ pub spot_made : (count : ℕ) (spot : Spot) → wraps_table spot ≡ false → s
     → IsMade count spot
 spot_made count (spots.Table b) own made = grind (arith, table_entries_trie (table_of b))
 spot_made count (spots.Item b) own made = grind (arith, standing_here b.now)
-spot_made count (spots.Plain b) own made = absurd (false≢true made)
+spot_made count (spots.Plain b) own made = absurd (cc)
 
 pub root_made : (count : ℕ) (spot : Spot) (t : Table) → wraps_table spot ≡ false → (count == 0) ≡ true
     → spot_trie spot ≡ table_trie t → IsMade count spot

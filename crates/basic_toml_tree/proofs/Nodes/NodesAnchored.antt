@@ -1,7 +1,7 @@
 -- What a node is found by again is an anchor of what is at its path.
 use Rattle.std.proofs.Common.{◌≡◌, ◌==◌, ℕ, Bool, true, false, List, [], Some, length, arith, refl, sym, ◌∙◌, inl, inr}
 use Rattle.std.proofs.Common.{if◌then◌else◌}
-use Rattle.std.proofs.lemmas.Bool.{false≢true, cases_Bool}
+use Rattle.std.proofs.lemmas.Bool.{cases_Bool}
 use Rattle.basic_toml_grammar.specs.Sections.{Section}
 use Rattle.basic_toml_grammar.specs.Steps.{Path, keys_of}
 use Rattle.basic_toml_grammar.specs.IndexedPath.{located}
@@ -33,7 +33,7 @@ made_anchor : (spot : Spot) (start keys n : ℕ) → spot_is_made 1 spot ≡ tru
     ≡ (if stands_array (standing (spot_trie spot)) then anchors.Array n keys else anchors.Table n keys)
 made_anchor (spots.Table b) start keys n made section = grind (arith, table_entries_trie (table_of b))
 made_anchor (spots.Item b) start keys n made section = grind (arith, standing_here b.now)
-made_anchor (spots.Plain b) start keys n made section = absurd (false≢true made)
+made_anchor (spots.Plain b) start keys n made section = absurd (cc)
 
 row_anchor : (spot : Spot) (start keys : ℕ) → spot_is_made 1 spot ≡ false
     → spot_anchor spot start keys ≡ anchors.Value start keys

@@ -17,9 +17,9 @@ use Rattle.basic_toml_tree.specs.declared.tree.Tree.{Tree}
 use Rattle.basic_toml_tree.specs.declared.node.Node.{Node}
 use Rattle.basic_toml_tree.specs.declared.spot.Spot.{Spot}
 use Rattle.basic_toml_tree.specs.declared.spot.Spot.TheVariants as spots
-use Rattle.basic_toml_tree.specs.Stands.{trie_at, tree_trie, spot_trie, wraps_table, is_root, StandsAt, AtKey}
-use Rattle.basic_toml_tree.specs.Stands.{IsBeside, ComesFrom, node_origins, AtNumber, StartIsKept, IsPlainElement}
-use Rattle.basic_toml_tree.specs.Stands.{spot_origins, SpotComes}
+use Rattle.basic_toml_tree.specs.Stands.{trie_at, tree_trie, spot_trie, wraps_table, is_root, StandsAt, AtKey, IsBeside}
+use Rattle.basic_toml_tree.specs.Stands.{ComesFrom, node_origins, AtNumber, StartIsKept, IsPlainElement, spot_origins}
+use Rattle.basic_toml_tree.specs.Stands.{SpotComes}
 use Rattle.basic_toml_tree.proofs.Nodes.KeysLead.{KeepsKeys, keys_beside}
 use Rattle.basic_toml_tree.specs.Data.{child_data, table_data, data_of}
 use Rattle.basic_toml_tree.specs.Nodes.{node_data, data_at, elements_in}
@@ -129,20 +129,16 @@ pub no_root : (p : Path) (s : Step) → is_root (p ++ s ∷ []) ≡ false
 no_root [] s = refl
 no_root (r ∷ p) s = refl
 
--- A node is that of a trie, and so of a path of a tree and of a step on from another node, if the trie tells of
--- anything there.
-abbrev IsOf : Trie → Node → Type 0
+-- a node is that of a trie, if that tells of anything
+abbrev pub IsOf : Trie → Node → Type 0
 IsOf t node = (t ≡ nothing) ⊎ ((spot_trie node.spot ≡ t) × (wraps_table node.spot ≡ false))
-
-abbrev pub Further : Tree → Path → Node → Type 0
-Further tree p node = IsOf (trie_at p (tree_trie tree)) node
 
 abbrev pub StepsOn : Node → Step → Node → Type 0
 StepsOn from s node = IsOf (below s (spot_trie from.spot)) node
 
 -- one step on from a node
 pub further : (from node : Node) (s : Step) → (wraps_table from.spot ≡ false → StepsOn from s node) → (tree : Tree)
-    (p : Path) → StandsAt tree p from → Further tree (p ++ s ∷ []) node
+    (p : Path) → StandsAt tree p from → IsOf (trie_at (p ++ s ∷ []) (tree_trie tree)) node
 further from node s more tree p stands = grind (arith, at_more p s (tree_trie tree), stands.there, more)
 
 module _ (from node : Node) (s : Step) (same : node.tree ≡ from.tree)

@@ -25,7 +25,7 @@ use Rattle.basic_toml_tree.proofs.Nodes.OneSection.{pairs_apart}
 use Rattle.basic_toml_grammar.specs.Nodes.{front, node_in, is_made, start_in, first_start, holder, node_of_rows}
 use Rattle.basic_toml_grammar.specs.Nodes.{node_of_sections, dotted_node, value_node, dotted_start, holder_in, node_by}
 use Rattle.basic_toml_grammar.specs.Nodes.{node_among}
-use Rattle.basic_toml_grammar.proofs.AmongElements.{Among, first, next, among_right, among_either}
+use Rattle.basic_toml_grammar.proofs.AmongElements.{Among, first, next, among_either}
 use Rattle.basic_toml_tree.proofs.HeadersMake.{any_of}
 use Rattle.basic_toml_tree.proofs.Nodes.Lines.{begun, keys_end, Line, path_of, choose, start_among, Apart, none_passes}
 use Rattle.basic_toml_tree.proofs.Nodes.Lines.{OuterOf, ValueOuter, Found, within, by_rows, found, no_longer, Fits}
@@ -206,27 +206,23 @@ none_there holder p e (f ∷ fs) on free =
     let rest = none_there holder p e fs on (λ f a. free f (next a)) in
     grind (arith, neither_begins (path_of e) (path_of f) p on (free f first), rest)
 
-apart_rest : (es fs : List Line) → Apart (es ++ fs) → Apart fs
-apart_rest [] fs apart = apart
-apart_rest (e ∷ es) fs (Apart.more free apart) = apart_rest es fs apart
-
 -- the rows of sections, as lines
 module _ (ls : List Located) (last : Option ℕ) (p : Path) where
-  rows_lines : (l : Located) (rows : Rows) (fs : List Line) → Apart (lines_of l.path (names_of l) rows ++ fs)
-      → option_or (node_of_rows ls last l rows p) (choose (holder ls last) fs p)
+  rows_lines : (l : Located) (rows : Rows) (fs : List Line) (n : Option grammar.Node)
+      → (Apart fs → n ≡ choose (holder ls last) fs p) → Apart (lines_of l.path (names_of l) rows ++ fs)
+      → option_or (node_of_rows ls last l rows p) n
       ≡ choose (holder ls last) (lines_of l.path (names_of l) rows ++ fs) p
-  rows_lines l no_rows fs apart = refl
-  rows_lines l (row ks at v rows) fs (Apart.more {e = e} free apart) =
-      let none : begins (path_of e) p ≡ true → choose (holder ls last) fs p ≡ None =
-      λ on. none_there (holder ls last) p e fs on (λ f a. free f (among_right (lines_of l.path (names_of l) rows) a)) in
-      grind (arith, none, rows_lines l rows fs apart)
+  rows_lines l no_rows fs n later apart = later apart
+  rows_lines l (row ks at v rows) fs n later (Apart.more {e = e} free apart) =
+      let rest = lines_of l.path (names_of l) rows ++ fs in
+      let none = λ (on : begins (path_of e) p ≡ true). none_there (holder ls last) p e rest on free in
+      grind (arith, none, rows_lines l rows fs n later apart)
 
   sections_lines : (later : List Located) → Apart (all_lines later)
       → node_of_sections ls last later p ≡ choose (holder ls last) (all_lines later) p
   sections_lines [] apart = refl
   sections_lines (l ∷ later) apart =
-      rw (sections_lines later (apart_rest (lines_of l.path (names_of l) l.section.rows) (all_lines later) apart))
-      (rows_lines l l.section.rows (all_lines later) apart)
+      rows_lines l l.section.rows (all_lines later) (node_of_sections ls last later p) (sections_lines later) apart
 
 -- where a dotted table begins
 starts_rows : (base : Path) (name : List Key → KeyTexts) (rows : Rows) (fs : List Line) (p : Path)

@@ -1,6 +1,6 @@
-use Rattle.std.proofs.Common.{◌≡◌, ap, sym, ◌∙◌, rules, true}
+use Rattle.std.proofs.Common.{◌≡◌, ap, ◌∙◌, rules}
 use Rattle.basic_toml_read.specs.declared.section.Raw as raws
-use Rattle.basic_toml_plain.specs.Plain.{is_plain, are_few_simple}
+use Rattle.basic_toml_plain.specs.Plain.{are_few_simple}
 use Rattle.basic_toml_plain.proofs.PlainValues.{table_within}
 use Rattle.basic_toml_tree.specs.declared.spot.HeaderTable.TheVariants as tables
 use Rattle.basic_toml_tree.specs.declared.spot.Spot.TheVariants as spots
@@ -13,8 +13,7 @@ returns-in-Inline-value-clause-fields c =
     let rows = c.in-Inline-value.rows in
     let holds : HoldsRows c.args.self.spot c.as_slice.result.now =
     rw (c.in-Plain.is, c.in-Inline-value.is, c.as_slice.ensures.value) (search (rules, raws.the_lemmas)) in
-    let plain : is_plain (raws.Inline c.in-Inline-value.rows) 0 ≡ true =
-    ap (λ v. is_plain v 0) (sym c.in-Inline-value.is) ∙ c.in-Plain.plain.plain in
+    let plain = rw c.in-Inline-value.is at c.in-Plain.plain.plain in
     (holds, ap (are_few_simple 0) c.as_slice.ensures.value ∙ table_within rows 0 plain)
 
 pub returns-in-Section-clause-data : goal.returns-in-Section-clause-data
