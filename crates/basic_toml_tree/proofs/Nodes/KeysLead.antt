@@ -117,11 +117,8 @@ keys_beside from node here n beside tree p stands = (
 
 -- the root, to which no key leads
 pub root_rows : (tree : Tree) (node : Node) → RowsLead tree [] node
-root_rows tree node sections resolved q k r same made = absurd (other q same)
-  where
-    other : (q : Path) → [] ≡ q ++ key k ∷ r → ⊥
-    other [] e = cc
-    other (s ∷ q) e = cc
+root_rows tree node sections resolved [] k r same made = absurd (cc)
+root_rows tree node sections resolved (s ∷ q) k r same made = absurd (cc)
 
 pub root_keys : (tree : Tree) (node : Node) → node.trail ≡ Header 0 → KeysLead tree [] node
 root_keys tree node kept sections resolved made = record { section = 0; trail = kept; leads = refl }

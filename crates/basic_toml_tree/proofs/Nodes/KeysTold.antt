@@ -325,47 +325,44 @@ made_from ls q (s ∷ r) made not =
 
 -- what a row put at a key of a table that headers made, or below it
 module _ (sections : List Section) (node : Node) (p : Path) (is : IsNodeAt sections p node)
-    (not : grammar.is_made (located sections) p ≡ false)
-  where
-    abbrev SaysKeys : grammar.Node → Type 0
-    SaysKeys found = trail_keys node.tree.now.headers node.count node.trail ≡ found.key_path
+    (not : grammar.is_made (located sections) p ≡ false) where
+  told_row : (m : grammar.Node) → GivenBy (located sections) p m
+      → trail_keys node.tree.now.headers node.count node.trail ≡ m.key_path
+  told_row m given =
+      let ls = located sections in
+      let tree = node.tree.now in
+      let row = given.3 in
+      let by = made_from ls [] p refl not in
+      let step = by.before ++ by.step ∷ [] in
+      let entry = entry_at ls (no_clash sections is.resolved).1 (rows_keyed sections is.resolved) by.before by.step
+      by.made (not_led ls step by.not) given.0 given.1 given.2 by.rest (rw (by.is) at row.told) in
+      let k = entry.key_is.0 in
+      let l = given.1 in
+      let at = header_is sections tree is.resolved given.0 l given.2 in
+      let path : p ≡ by.before ++ key k ∷ by.rest =
+      by.is ∙ ap (λ s. by.before ++ s ∷ by.rest) entry.key_is.1 in
+      let here : tree_origins tree (by.before ++ key k ∷ []) ≡ Some entry.told.0 =
+      ap (λ s. tree_origins tree (by.before ++ s ∷ [])) (sym entry.key_is.1)
+      ∙ is.resolved.origins step by.not ∙ entry.told.1 in
+      let rows = rw here at (is.stands.rows sections is.resolved by.before k by.rest path by.made) in
+      let y = entry.before in
+      let same = append_cancel_left l.path (y.0 ++ key k ∷ by.rest) (key row.first ∷ row.others)
+      (sym (append_assoc l.path y.0 (key k ∷ by.rest)) ∙ ap (λ w. w ++ key k ∷ by.rest) (sym y.1) ∙ sym path
+      ∙ row.path) in
+      rw (
+        row_keys tree given.0 node.count (keys_of by.before) k node.trail
+            (rw (entry.told.2) at (rows entry.told.3)),
+        at.0,
+        ap (λ q. get_or (keys_of q) (length (keys_of l.path)) k) y.1,
+        key_after l.path y.0 by.rest row.others k row.first same,
+        at.1,
+      )
+      (sym row.keys)
 
-    told_row : (m : grammar.Node) → GivenBy (located sections) p m → SaysKeys m
-    told_row m given =
-        let ls = located sections in
-        let tree = node.tree.now in
-        let row = given.3 in
-        let by = made_from ls [] p refl not in
-        let step = by.before ++ by.step ∷ [] in
-        let entry = entry_at ls (no_clash sections is.resolved).1 (rows_keyed sections is.resolved) by.before by.step
-        by.made (not_led ls step by.not) given.0 given.1 given.2 by.rest (rw (by.is) at row.told) in
-        let k = entry.key_is.0 in
-        let l = given.1 in
-        let at = header_is sections tree is.resolved given.0 l given.2 in
-        let path : p ≡ by.before ++ key k ∷ by.rest =
-        by.is ∙ ap (λ s. by.before ++ s ∷ by.rest) entry.key_is.1 in
-        let here : tree_origins tree (by.before ++ key k ∷ []) ≡ Some entry.told.0 =
-        ap (λ s. tree_origins tree (by.before ++ s ∷ [])) (sym entry.key_is.1)
-        ∙ is.resolved.origins step by.not ∙ entry.told.1 in
-        let rows = rw here at (is.stands.rows sections is.resolved by.before k by.rest path by.made) in
-        let y = entry.before in
-        let same = append_cancel_left l.path (y.0 ++ key k ∷ by.rest) (key row.first ∷ row.others)
-        (sym (append_assoc l.path y.0 (key k ∷ by.rest)) ∙ ap (λ w. w ++ key k ∷ by.rest) (sym y.1) ∙ sym path
-        ∙ row.path) in
-        rw (
-          row_keys tree given.0 node.count (keys_of by.before) k node.trail
-              (rw (entry.told.2) at (rows entry.told.3)),
-          at.0,
-          ap (λ q. get_or (keys_of q) (length (keys_of l.path)) k) y.1,
-          key_after l.path y.0 by.rest row.others k row.first same,
-          at.1,
-        )
-        (sym row.keys)
-
-    pub row_keys_told : IfSome (grammar.node_at sections p) (λ found. kept_keys node ≡ found.key_path)
-    unfolding kept_keys
-    row_keys_told =
-        let ls = located sections in
-        let last = grammar.last_at sections in
-        rw not (IfSome_then (grammar.node_of_sections ls last ls p) (sections_give ls last ls p (not_led ls p not)
-        (rows_free sections is.resolved) (rows_keyed sections is.resolved)) told_row)
+  pub row_keys_told : IfSome (grammar.node_at sections p) (λ found. kept_keys node ≡ found.key_path)
+  unfolding kept_keys
+  row_keys_told =
+      let ls = located sections in
+      let last = grammar.last_at sections in
+      rw not (IfSome_then (grammar.node_of_sections ls last ls p) (sections_give ls last ls p (not_led ls p not)
+      (rows_free sections is.resolved) (rows_keyed sections is.resolved)) told_row)

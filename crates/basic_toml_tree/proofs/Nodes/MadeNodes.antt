@@ -16,7 +16,7 @@ use Rattle.basic_toml_grow.specs.Item.{table_trie}
 use Rattle.basic_toml_tree.specs.Headers.{last_of}
 use Rattle.basic_toml_tree.specs.HeaderTables.{table_of}
 use Rattle.basic_toml_tree.specs.Origin.{spot_is_made, is_made, spot_name, last_at, spot_is_borrowed}
-use Rattle.basic_toml_tree.specs.FirstStop.{Stands, only_root}
+use Rattle.basic_toml_tree.specs.FirstStop.{Stands}
 use Rattle.basic_toml_tree.specs.Resolve.{IsResolved, head}
 use Rattle.basic_toml_tree.specs.Stands.{trie_at, tree_trie, spot_trie, wraps_table, is_root, IsNodeAt, StandsAt}
 use Rattle.basic_toml_tree.specs.Outer.{stands_made}
@@ -46,11 +46,8 @@ pub array_in_trie : (sections : List Section) (t : Trie) → Stands sections t �
     → grammar.is_array (located sections) p ≡ stands_array (standing (trie_at p t))
 array_in_trie sections t (inl put) p =
     let st = marks_put sections t put in rw (same_way p t, st.2, standing_of st.0 p) (array_is sections st.0 st.1 p)
-array_in_trie sections t (inr none) p = rw (none.0, none.1) (sym (go p))
-  where
-    go : (p : Path) → stands_array (standing (trie_at p only_root)) ≡ false
-    go [] = refl
-    go (s ∷ p) = rw (none_below p) refl
+array_in_trie sections t (inr none) [] = rw (none.0, none.1) refl
+array_in_trie sections t (inr none) (s ∷ p) = rw (none.0, none.1, none_below p) refl
 
 abbrev pub made_name : Bool → List ℕ
 made_name b = if b then codes "array" else codes "table"

@@ -195,78 +195,77 @@ pub record Entry (ls : List Located) (q : Path) (s : Step) (l : Located) (m : �
 -- a list in which no two sections clash, and a step that no header takes on from where some go
 module _ (ls : List Located) (apart : any_pair clashes ls ≡ false)
     (keyed : list_all (λ l. keyed_within l.section.rows) ls ≡ true) (q : Path) (s : Step)
-    (made : is_made ls q ≡ true) (not : list_any (λ l. begins (q ++ s ∷ []) l.path) ls ≡ false)
-  where
-    -- some row of the section goes over the step
-    record Passes (l : Located) : Type 0 where
-      y : Path
-      at : q ≡ l.path ++ y
-      over : Over l.path l.section.rows y s
+    (made : is_made ls q ≡ true) (not : list_any (λ l. begins (q ++ s ∷ []) l.path) ls ≡ false) where
+  -- some row of the section goes over the step
+  record Passes (l : Located) : Type 0 where
+    y : Path
+    at : q ≡ l.path ++ y
+    over : Over l.path l.section.rows y s
 
-    gone_on : {l : Located} → Among l ls → (y : Path) → q ≡ l.path ++ y → GoneOn l.path l.section.rows y
-    gone_on a [] at = inl refl
-    gone_on {l = l} a (u ∷ y) at =
-        let j = any_of (λ j. begins (l.path ++ u ∷ y) j.path) ls (made_by ls l.path u y (rw at at made)) in
-        inr (
-          j.0,
-          j.2,
-          elim (pairs_apart apart a j.1) [
-            | inl same ↦ absurd (no_longer l.path u y (rw (← same) at j.2))
-            | inr one ↦ (or_parts _ _ (or_parts _ _ one).1).1
-          ],
-        )
+  gone_on : {l : Located} → Among l ls → (y : Path) → q ≡ l.path ++ y → GoneOn l.path l.section.rows y
+  gone_on a [] at = inl refl
+  gone_on {l = l} a (u ∷ y) at =
+      let j = any_of (λ j. begins (l.path ++ u ∷ y) j.path) ls (made_by ls l.path u y (rw at at made)) in
+      inr (
+        j.0,
+        j.2,
+        elim (pairs_apart apart a j.1) [
+          | inl same ↦ absurd (no_longer l.path u y (rw (← same) at j.2))
+          | inr one ↦ (or_parts _ _ (or_parts _ _ one).1).1
+        ],
+      )
 
-    way : (l : Located) (y : Path) → q ≡ l.path ++ y → (r : Path) (f : Origins)
-        → along l.path f (q ++ s ∷ r) ≡ f (y ++ s ∷ r)
-    way l y at r f = rw (at, append_assoc l.path y (s ∷ r)) (along_on l.path (y ++ s ∷ r) f)
+  way : (l : Located) (y : Path) → q ≡ l.path ++ y → (r : Path) (f : Origins)
+      → along l.path f (q ++ s ∷ r) ≡ f (y ++ s ∷ r)
+  way l y at r f = rw (at, append_assoc l.path y (s ∷ r)) (along_on l.path (y ++ s ∷ r) f)
 
-    passes : {l : Located} → Among l ls
-        → ((n : ℕ) (r : Path) → along l.path (rows_origins n l.section.rows) (q ++ s ∷ r) ≡ None) ⊎ Passes l
-    passes {l = l} a = elim (cases_Bool (begins l.path q)) [
-      | inl on ↦
-          let y = drop (length l.path) q in
-          let at = goes_by l.path q on in
-          elim (rows_over l.path l.section.rows y s (all_pass (λ l. keyed_within l.section.rows) keyed a)
-          (gone_on a y at)) [
-            | inl none ↦ inl (λ n r. way l y at r (rows_origins n l.section.rows) ∙ none n r)
-            | inr over ↦ inr (record { y = y; at = at; over = over })
-          ]
-      | inr off ↦
-          let back = none_passes (λ l. begins (q ++ s ∷ []) l.path) not a in
-          inl (λ n r. along_apart l.path q s r (rows_origins n l.section.rows) off back)
-    ]
+  passes : {l : Located} → Among l ls
+      → ((n : ℕ) (r : Path) → along l.path (rows_origins n l.section.rows) (q ++ s ∷ r) ≡ None) ⊎ Passes l
+  passes {l = l} a = elim (cases_Bool (begins l.path q)) [
+    | inl on ↦
+        let y = drop (length l.path) q in
+        let at = goes_by l.path q on in
+        elim (rows_over l.path l.section.rows y s (all_pass (λ l. keyed_within l.section.rows) keyed a)
+        (gone_on a y at)) [
+          | inl none ↦ inl (λ n r. way l y at r (rows_origins n l.section.rows) ∙ none n r)
+          | inr over ↦ inr (record { y = y; at = at; over = over })
+        ]
+    | inr off ↦
+        let back = none_passes (λ l. begins (q ++ s ∷ []) l.path) not a in
+        inl (λ n r. along_apart l.path q s r (rows_origins n l.section.rows) off back)
+  ]
 
-    -- two of them
-    never_two : (i j : Located) → Passes i → Passes j → clashes i j ≡ false → ⊥
-    never_two i j one two free = elim (compare i.path one.y j.path two.y (sym one.at ∙ two.at)) [
-      | inl on ↦ further_clashes i j one.y two.y s on one.over (or_parts _ _ free).0
-      | inr on ↦ further_clashes j i two.y one.y s on two.over (or_parts _ _ free).1
-    ]
+  -- two of them
+  never_two : (i j : Located) → Passes i → Passes j → clashes i j ≡ false → ⊥
+  never_two i j one two free = elim (compare i.path one.y j.path two.y (sym one.at ∙ two.at)) [
+    | inl on ↦ further_clashes i j one.y two.y s on one.over (or_parts _ _ free).0
+    | inr on ↦ further_clashes j i two.y one.y s on two.over (or_parts _ _ free).1
+  ]
 
-    first_told : (n : ℕ) (later : List Located) → any_pair clashes later ≡ false
-        → ((j : Located) → Among j later → Among j ls) → (m : ℕ) (l : Located) → slice_get later m ≡ Some l → Passes l
-        → (k : ℕ) → n + m ≡ k → Told k (sections_origins n later (q ++ s ∷ []))
-    first_told n [] free within m l there one k is = absurd (cc)
-    first_told n (i ∷ later) free within zero l there one k is =
-        let same : i ≡ l = cc in
-        let first : n ≡ k = omega arith in
-        let told = one.over.told k in
-        rw (first, same, way l one.y one.at [] (rows_origins k l.section.rows), told.1) (told.0, refl, told.2, told.3)
-    first_told n (i ∷ later) free within (suc m) l there one k is = elim (passes (within i first)) [
-      | inl none ↦
-          rw (none n []) (first_told (suc n) later (or_parts _ _ free).1 (λ j a. within j (next a)) m l there one k
-          (omega arith))
-      | inr other ↦
-          absurd (never_two i l other one (none_passes (clashes i) (or_parts _ _ free).0 (among_at later m l there)))
-    ]
+  first_told : (n : ℕ) (later : List Located) → any_pair clashes later ≡ false
+      → ((j : Located) → Among j later → Among j ls) → (m : ℕ) (l : Located) → slice_get later m ≡ Some l → Passes l
+      → (k : ℕ) → n + m ≡ k → Told k (sections_origins n later (q ++ s ∷ []))
+  first_told n [] free within m l there one k is = absurd (cc)
+  first_told n (i ∷ later) free within zero l there one k is =
+      let same : i ≡ l = cc in
+      let first : n ≡ k = omega arith in
+      let told = one.over.told k in
+      rw (first, same, way l one.y one.at [] (rows_origins k l.section.rows), told.1) (told.0, refl, told.2, told.3)
+  first_told n (i ∷ later) free within (suc m) l there one k is = elim (passes (within i first)) [
+    | inl none ↦
+        rw (none n []) (first_told (suc n) later (or_parts _ _ free).1 (λ j a. within j (next a)) m l there one k
+        (omega arith))
+    | inr other ↦
+        absurd (never_two i l other one (none_passes (clashes i) (or_parts _ _ free).0 (among_at later m l there)))
+  ]
 
-    pub entry_at : (m : ℕ) (l : Located) → slice_get ls m ≡ Some l → (r : Path)
-        → is_some (along l.path (rows_origins 0 l.section.rows) (q ++ s ∷ r)) ≡ true → Entry ls q s l m
-    entry_at m l there r some = elim (passes (among_at ls m l there)) [
-      | inl none ↦ absurd (false≢true (rw (none 0 r) at some))
-      | inr one ↦ record {
-        key_is = key_in one.over.keys one.y s one.over.on;
-        told = first_told 0 ls apart (λ j a. a) m l there one m (omega arith);
-        before = (one.y, one.at);
-      }
-    ]
+  pub entry_at : (m : ℕ) (l : Located) → slice_get ls m ≡ Some l → (r : Path)
+      → is_some (along l.path (rows_origins 0 l.section.rows) (q ++ s ∷ r)) ≡ true → Entry ls q s l m
+  entry_at m l there r some = elim (passes (among_at ls m l there)) [
+    | inl none ↦ absurd (false≢true (rw (none 0 r) at some))
+    | inr one ↦ record {
+      key_is = key_in one.over.keys one.y s one.over.on;
+      told = first_told 0 ls apart (λ j a. a) m l there one m (omega arith);
+      before = (one.y, one.at);
+    }
+  ]
