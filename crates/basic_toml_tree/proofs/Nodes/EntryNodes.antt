@@ -234,14 +234,8 @@ module _ {from node : Node} {k : List ℕ} {c : ℕ → Child} (f : Fields) (hol
   entry_on own =
       let t = table_in f 0 in
       let key = find_key (out-Table t).entries k (c 0) (found 0) in
-      grind (
-        arith,
-        (tells from.spot f holds).trie own k,
-        (is 0).below.trie,
-        (is 0).below.own,
-        key,
-        table_entries_trie t,
-      )
+      let told = (tells from.spot f holds).trie own k in
+      grind (arith, told, (is 0).below.trie, (is 0).below.own, key, table_entries_trie t)
 
   entry_origins : (s : ℕ) (q : Path) → node_origins s from (key k ∷ q) ≡ child_origins (c s) q
   entry_origins s q =

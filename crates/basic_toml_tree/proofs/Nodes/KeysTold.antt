@@ -349,15 +349,11 @@ module _ (sections : List Section) (node : Node) (p : Path) (is : IsNodeAt secti
       let same = append_cancel_left l.path (y.0 ++ key k ∷ by.rest) (key row.first ∷ row.others)
       (sym (append_assoc l.path y.0 (key k ∷ by.rest)) ∙ ap (λ w. w ++ key k ∷ by.rest) (sym y.1) ∙ sym path
       ∙ row.path) in
-      rw (
-        row_keys tree given.0 node.count (keys_of by.before) k node.trail
-            (rw (entry.told.2) at (rows entry.told.3)),
-        at.0,
-        ap (λ q. get_or (keys_of q) (length (keys_of l.path)) k) y.1,
-        key_after l.path y.0 by.rest row.others k row.first same,
-        at.1,
-      )
-      (sym row.keys)
+      let first = ap (λ q. get_or (keys_of q) (length (keys_of l.path)) k) y.1 in
+      let after = key_after l.path y.0 by.rest row.others k row.first same in
+      let keys = row_keys tree given.0 node.count (keys_of by.before) k node.trail
+      (rw (entry.told.2) at (rows entry.told.3)) in
+      rw (keys, at.0, first, after, at.1) (sym row.keys)
 
   pub row_keys_told : IfSome (grammar.node_at sections p) (λ found. kept_keys node ≡ found.key_path)
   unfolding kept_keys

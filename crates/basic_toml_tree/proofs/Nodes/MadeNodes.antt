@@ -76,15 +76,9 @@ module _ (tree : Tree) (node : Node) (p : Path) (stands : StandsAt tree p node) 
   pub root_at : p ≡ [] → IsMade node.count node.spot × (spot_trie node.spot ≡ trie_at p (tree_trie tree))
   root_at is =
       let here : trie_at p (tree_trie tree) ≡ table_trie tree.root = rw is refl in
-      grind (
-        arith,
-        here,
-        stands.there,
-        stands.root,
-        ap is_root is,
-        table_entries_trie tree.root,
-        root_made node.count node.spot tree.root,
-      )
+      let root = ap is_root is in
+      let made = root_made node.count node.spot tree.root in
+      grind (arith, here, stands.there, stands.root, root, table_entries_trie tree.root, made)
 
   pub table_at : stands_made (standing (trie_at p (tree_trie tree))) ≡ true
       → IsMade node.count node.spot × (spot_trie node.spot ≡ trie_at p (tree_trie tree))

@@ -1,9 +1,9 @@
 -- What a node is found by again is an anchor of what is at its path.
-use Rattle.std.proofs.Common.{◌≡◌, ◌==◌, ℕ, Bool, true, false, List, [], Some, length, arith, refl, sym, ◌∙◌, inl, inr}
+use Rattle.std.proofs.Common.{◌≡◌, ◌==◌, ℕ, Bool, true, false, List, [], Some, arith, refl, sym, ◌∙◌, inl, inr}
 use Rattle.std.proofs.Common.{if◌then◌else◌}
 use Rattle.std.proofs.lemmas.Bool.{cases_Bool}
 use Rattle.basic_toml_grammar.specs.Sections.{Section}
-use Rattle.basic_toml_grammar.specs.Steps.{Path, keys_of}
+use Rattle.basic_toml_grammar.specs.Steps.{Path}
 use Rattle.basic_toml_grammar.specs.IndexedPath.{located}
 use Rattle.basic_toml_grammar.specs.Nodes as grammar
 use Rattle.basic_toml_grammar.specs.Trie.{standing}
@@ -47,20 +47,17 @@ module _ (sections : List Section) (p : Path) (node : Node) (is : IsNodeAt secti
   made_as : is_made node ≡ grammar.is_made (located sections) p
   made_as = (some_and (grammar.node_at sections p) (made_foretold (is_made node) node refl sections p is)).2
 
-  counted : node.count ≡ length (keys_of p)
-  counted = is.stands.count sections is.resolved
-
   of_value : is_made node ≡ false → IsAnchorOf sections p (anchors.Value node.start node.count)
   unfolding start_of
   of_value apart =
       let found = some_and (grammar.node_at sections p) (start_foretold (start_of node) node refl sections p is) in
       let same : start_of node ≡ Some node.start = rw apart refl in
-      (sym made_as ∙ apart, rw (found.1) (sym found.2 ∙ same), counted)
+      (sym made_as ∙ apart, rw (found.1) (sym found.2 ∙ same), is.stands.count sections is.resolved)
 
   of_made : (array : Bool) (n : ℕ) → array ≡ grammar.is_array (located sections) p → LeadsTo (located sections) n p
       → IsAnchorOf sections p (if array then anchors.Array n node.count else anchors.Table n node.count)
-  of_made true n same leads = (leads, sym same, counted)
-  of_made false n same leads = (leads, sym same, counted)
+  of_made true n same leads = (leads, sym same, is.stands.count sections is.resolved)
+  of_made false n same leads = (leads, sym same, is.stands.count sections is.resolved)
 
   by_spot : IsAnchorOf sections p (spot_anchor node.spot node.start node.count)
   by_spot = elim (cases_Bool (is_made node)) [

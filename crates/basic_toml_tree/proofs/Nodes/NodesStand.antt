@@ -109,11 +109,8 @@ module _ (from node : Node) (es : List Element) (n : ℕ) (is : IsPlainElement f
     (array : (at s : ℕ) → spot_origins from.spot at s ≡ value_origins s at (plain_array es)) where
   pub element_comes : (s : ℕ) → ComesFrom (λ q. node_origins s from (number n ∷ q)) node
   element_comes s =
-      comes_alike (λ q. rw (
-        array from.start s,
-        origins_placed s (map placed_of es),
-        read_mapped (λ e. value_origins s e.offset e.value) (map placed_of es) n _ is.placed,
-      ) refl)
+      let read = read_mapped (λ e. value_origins s e.offset e.value) (map placed_of es) n _ is.placed in
+      comes_alike (λ q. rw (array from.start s, origins_placed s (map placed_of es), read) refl)
       (value_comes is.plain node.spot is.spot node.count node.start s)
 
 pub at_more : (p : Path) (s : Step) (t : Trie) → trie_at (p ++ s ∷ []) t ≡ below s (trie_at p t)
@@ -228,13 +225,10 @@ pub literal_given : {fits : Type 0} (from node : Node) (n : ℕ) (b : Bor Item) 
 literal_given from node n b at children spot child is there same beside comes within =
     let read : slice_get (elements_in (node_data from)) n ≡ Some (node_data node) =
     rw (at, is, array_elements children, same) (read_mapped child_data children.items n child there) in
+    let origins = read_mapped child_origins children.items n child there in
     beside_given from node spot n beside (rw (at, is) (search (rules, the_lemmas))) read
-    (λ own. inl (rw (at, is) (search (rules, the_lemmas)))) (λ counted s. comes_alike (λ q. rw (
-      at,
-      is,
-      array_seen children from.start s,
-      read_mapped child_origins children.items n child there,
-    ) refl) comes) within
+    (λ own. inl (rw (at, is) (search (rules, the_lemmas)))) (λ counted s. comes_alike
+    (λ q. rw (at, is, array_seen children from.start s, origins) refl) comes) within
 
 find_number : (k n m : ℕ) (ts : List Trie) (u : Trie) → m ≡ k + n → slice_get ts n ≡ Some u
     → find (number m) (by_numbers k ts) ≡ u
@@ -260,16 +254,13 @@ pub table_among : (tables : Box (Vec Table Global × Table) Global) (n : ℕ) (t
 table_among tables n t read =
     let ts : List Table = tables.value.0.items in
     let last = tables.value.1 in
+    let within = mapped table_within ts last n t read in
     record {
       is_data = rw (tables_elements tables) (mapped table_data ts last n t read);
       tables = ap tells_table (tables_trie tables);
       is_trie = rw (tables_trie tables) (find_number 0 n n (map table_trie ts ++ table_trie last ∷ []) (table_trie t)
           (omega arith) (mapped table_trie ts last n t read));
-      origins = λ at s q. rw (
-        tables_seen tables at s,
-        read_mapped (of_table at s)
-            (map table_within ts ++ table_within last ∷ []) n _ (mapped table_within ts last n t read),
-      ) refl;
+      origins = λ at s q. rw (tables_seen tables at s, read_mapped (of_table at s) _ n _ within) refl;
     }
 
 pub section_among : (tables : Box SectionTables Global) (n : ℕ) (t : SectionTable)
@@ -278,6 +269,7 @@ pub section_among : (tables : Box SectionTables Global) (n : ℕ) (t : SectionTa
 section_among tables n t read simple =
     let ts = tables.value.0 in
     let last = tables.value.1 in
+    let within = section_within t.0 t.1 simple in
     record {
       is_data = rw (sections_elements tables, section_table_data t.0 t.1 simple, few_data t.1 simple)
           (read_mapped (λ t. section_data t.1) (tables_in tables.value) n t read);
@@ -285,11 +277,7 @@ section_among tables n t read simple =
       is_trie = rw (sections_trie tables, ← (section_trie t.0 t.1 simple), section_item_trie t.1)
           (find_number 0 n n (map (λ t. rows_trie t.1) ts ++ rows_trie last.1 ∷ []) (rows_trie t.1) (omega arith)
           (mapped (λ t. rows_trie t.1) ts last n t read));
-      origins = λ at s q. rw (
-        sections_seen tables at s,
-        mapped (section_origins at) ts last n t read,
-        section_within t.0 t.1 simple,
-      ) refl;
+      origins = λ at s q. rw (sections_seen tables at s, mapped (section_origins at) ts last n t read, within) refl;
     }
 
 -- its node

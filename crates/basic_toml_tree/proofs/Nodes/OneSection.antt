@@ -45,12 +45,8 @@ module _ (d : Origin) (f : Origins) where
   row_none (k ∷ ks) [] s r not off = grind arith
   row_none (k ∷ []) (t ∷ y) s r not off = grind (arith, turn_eq t (key k))
   row_none (k ∷ l ∷ ks) (t ∷ y) s r not off =
-      grind (
-        arith,
-        turn_eq t (key k),
-        entry_below d (row_origins (l ∷ ks) d f) y s r,
-        row_none (l ∷ ks) y s r,
-      )
+      let under = entry_below d (row_origins (l ∷ ks) d f) y s r in
+      grind (arith, turn_eq t (key k), under, row_none (l ∷ ks) y s r)
 
   row_some : (n : ℕ) → Told n (Some d) → Told n (f []) → (ks : KeyTexts) (y : Path) (s : Step)
       → begins (y ++ s ∷ []) (steps_of ks) ≡ true → Told n (row_origins ks d f (y ++ s ∷ []))

@@ -95,12 +95,10 @@ module _ (names : KeyTexts) (outer : Option ℕ) (at : ℕ) (rows : Rows) (k : L
   ]
   of_inline (by_rows m chosen start same) = elim (cases_Bool (no_keys p)) [
     | inl e ↦ inr (refl, value_node names outer at (Raw.inline rows), rw e refl, rw e at same)
-    | inr e ↦ inr (
-      refl,
-      m,
-      rw e (by_lines names (Some at) rows rows (key k ∷ around p) ∙ (rw e at chosen)),
-      (rw e at same) ∙ starts_by_lines (λ ks. names) rows (key k ∷ around p) ∙ sym (rw e at start),
-    )
+    | inr e ↦
+        let starts = starts_by_lines (λ ks. names) rows (key k ∷ around p) in
+        let read = by_lines names (Some at) rows rows (key k ∷ around p) in
+        inr (refl, m, rw e (read ∙ (rw e at chosen)), (rw e at same) ∙ starts ∙ sym (rw e at start))
   ]
 
 -- the outer offsets of the nodes in a value

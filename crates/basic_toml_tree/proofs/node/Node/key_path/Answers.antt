@@ -9,14 +9,9 @@ pub returns-in_ok-path-in-Header : goal.returns-in_ok-path-in-Header
 unfolding keys_of
 returns-in_ok-path-in-Header c =
     let path = c.in_ok-path-in-Header.path.items in
+    let taken = take-map string_bytes c.args.self.count path in
     let same : map string_bytes c.truncate.new.self.items ≡ keys_of c.args.self =
-    rw (
-      c.truncate.ensures.items,
-      c.in-Header.is,
-      ← (take-map string_bytes c.args.self.count path),
-      c.in_ok-path-in-Header.ensures,
-      c.keys.ensures,
-    ) refl in
+    rw (c.truncate.ensures.items, c.in-Header.is, ← taken, c.in_ok-path-in-Header.ensures, c.keys.ensures) refl in
     record { is = same; foretold = keys_foretold _ c.args.self same }
 
 pub returns-in_ok-push-in-Row-clause-foretold : goal.returns-in_ok-push-in-Row-clause-foretold
