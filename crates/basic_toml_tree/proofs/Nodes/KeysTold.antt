@@ -133,18 +133,8 @@ sections_give ls last (l ∷ later) p back apart keyed =
     or_some node more (GivenBy (l ∷ later) p) (elim (goes_from ls last l 0 l.path p b.0) [
       | inl x ↦ some_both node (rw (← (x.2)) at (rows_keep ls last l x.0 x.1 l.section.rows k.0))
           (if_there node (λ m is. grind (arith, is, section_same ls last l 0 p b.0 a.0 k.0)))
-          (λ m row told. (
-            0,
-            l,
-            refl,
-            record {
-              first = row.0;
-              others = x.1;
-              path = x.2 ∙ ap (λ r. l.path ++ r ∷ x.1) row.1;
-              keys = row.2;
-              told = told;
-            },
-          ))
+          (λ m row told. let path = x.2 ∙ ap (λ r. l.path ++ r ∷ x.1) row.1 in
+          (0, l, refl, record { first = row.0; others = x.1; path = path; keys = row.2; told = told }))
       | inr not ↦ rw (rows_apart ls last l 0 l.section.rows p not b.0) tt
     ])
     (IfSome_then more (sections_give ls last later p b.1 a.1 k.1)

@@ -74,13 +74,8 @@ child_table_comes c t b count seen same some =
 -- What an item tells of itself is what is seen of it, unless headers made it: then it bears the section whose header is
 -- the latest that leads there.
 abbrev item_told : Item-F Item Child Table → ℕ → ℕ → Origin
-item_told x at s = record {
-  made = holds_tables x;
-  name = item_name x;
-  start = at;
-  section = s;
-  is_slice = holds_string x;
-}
+item_told x at s =
+    record { made = holds_tables x; name = item_name x; start = at; section = s; is_slice = holds_string x }
 
 abbrev Tells : Item-F Item Child Table → ℕ → ℕ → Option Origin → Type 0
 Tells x at s o =

@@ -77,13 +77,8 @@ plain_read es n at v read =
 
 -- where a plain value comes from
 own_is : (v : Raw) (at s : ℕ)
-    → IfSome (value_origins s at v []) (λ o. o.made ≡ false → o ≡ record {
-      made = false;
-      name = raw_name v;
-      start = at;
-      section = s;
-      is_slice = raw_is_slice v;
-    })
+    → IfSome (value_origins s at v []) (λ o. o.made ≡ false
+    → o ≡ record { made = false; name = raw_name v; start = at; section = s; is_slice = raw_is_slice v })
 own_is (Raw.string z c) at s = λ apart. refl
 own_is v at s = λ apart. refl
 

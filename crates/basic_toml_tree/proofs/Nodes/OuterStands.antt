@@ -26,8 +26,5 @@ keeps_below from node same tree p stands =
 
 -- the root keeps nothing
 pub root_keeps : (tree : Tree) (kept : Option ℕ) → kept ≡ None → StartIsKept tree [] kept
-root_keeps tree kept none = record {
-  root = λ is. none;
-  made = λ there. none;
-  row = rw (seen_at_none tree.root) tt;
-}
+root_keeps tree kept none =
+    record { root = λ is. none; made = λ there. none; row = rw (seen_at_none tree.root) tt }
