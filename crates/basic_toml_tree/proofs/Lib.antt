@@ -1,12 +1,10 @@
 pub mod ItemData
-pub mod InlineTables
 pub mod OrderIsFree
 pub mod SectionsGrown
 pub mod TreeOfText
 pub mod SectionsFaultIsOne
 pub mod SectionsStopped
 pub mod TrieData
-pub mod SectionData
 pub mod HeadersMake
 pub mod Origins
 pub mod Nodes

@@ -46,7 +46,7 @@ use Rattle.basic_toml_grow.proofs.SectionTables.{entries_are, row_child_trie, se
 use Rattle.basic_toml_grow.proofs.SectionTables.{section_within}
 use Rattle.basic_toml_tree.specs.declared.spot.Fields.{Fields}
 use Rattle.basic_toml_tree.specs.declared.spot.Spot.{Spot}
-use Rattle.basic_toml_tree.proofs.SectionData.{section_rows, section_table_data}
+use Rattle.basic_toml_tree.proofs.TrieData.{section_rows, section_table_data}
 use Rattle.basic_toml_tree.proofs.TrieData.{item_trie_data}
 use Rattle.basic_toml_tree.proofs.Nodes.NodesInOrder.{read_mapped, drop_next, progress, table_entries}
 use Rattle.std.proofs.lemmas.List.{length-map, drop_all}

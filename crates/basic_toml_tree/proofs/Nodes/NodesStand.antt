@@ -53,7 +53,7 @@ use Rattle.basic_toml_grow.proofs.SectionTables.{section_trie, section_within}
 use Rattle.basic_toml_grow.proofs.TablesOpened.{section_item_trie, sections_trie, tables_trie}
 use Rattle.basic_toml_tree.specs.HeaderTables.{table_of}
 use Rattle.basic_toml_tree.specs.declared.spot.HeaderTable.{HeaderTable}
-use Rattle.basic_toml_tree.proofs.SectionData.{section_table_data}
+use Rattle.basic_toml_tree.proofs.TrieData.{section_table_data}
 
 -- elements, one after another
 datas_placed : (ls : List Placed) → seen.listed (finished_elements (elements_from ls)) ≡ map (λ e. finished e.value) ls

@@ -7,7 +7,7 @@ use Rattle.basic_toml_plain.proofs.DataParts.{mapped_more, sections_seen, table_
 use Rattle.basic_toml_tree.specs.Data.{data_of, child_data, table_data, child_pair}
 use Rattle.basic_toml_tree.proofs.ItemData.{child_item, plain_seen, sections_item, tables_data}
 use Rattle.basic_toml_tree.proofs.ItemData.{table_of_pairs, keys_copied, refused_held, tables_seen}
-use Rattle.basic_toml_tree.proofs.SectionData.{section_rows}
+use Rattle.basic_toml_tree.proofs.TrieData.{section_rows}
 use Rattle.basic_toml_tree.proofs.values.+copies.Goals as goal
 
 pub elements_of-value_of-requires : goal.elements_of-value_of-requires

@@ -6,7 +6,7 @@ use Rattle.basic_toml_tree.specs.Data.{child_data, table_data, child_pair}
 use Rattle.basic_toml_tree.proofs.ItemData.{child_item}
 use Rattle.basic_toml_tree.proofs.ItemData.{table_of_pairs, tables_data, keys_copied, refused_held, tables_seen}
 use Rattle.basic_toml_value.proofs.KeysSeen.{keys_of-seen}
-use Rattle.basic_toml_tree.proofs.SectionData.{section_rows}
+use Rattle.basic_toml_tree.proofs.TrieData.{section_rows}
 use Rattle.basic_toml_tree.proofs.values.+moves.Goals as goal
 
 pub into_elements-into_value-requires : goal.into_elements-into_value-requires

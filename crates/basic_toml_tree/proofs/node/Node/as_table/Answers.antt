@@ -4,7 +4,7 @@ use Rattle.basic_toml_plain.specs.Plain.{are_few_simple}
 use Rattle.basic_toml_plain.proofs.PlainValues.{table_within}
 use Rattle.basic_toml_tree.specs.declared.spot.HeaderTable.TheVariants as tables
 use Rattle.basic_toml_tree.specs.declared.spot.Spot.TheVariants as spots
-use Rattle.basic_toml_tree.proofs.SectionData.{section_rows, section_table_data}
+use Rattle.basic_toml_tree.proofs.TrieData.{section_rows, section_table_data}
 use Rattle.basic_toml_tree.specs.Stands.{HoldsRows}
 use Rattle.basic_toml_tree.proofs.node.Node.as_table.Goals as goal
 

@@ -19,7 +19,7 @@ use Rattle.basic_toml_tree.specs.declared.spot.HeaderTable.TheVariants.{Entries}
 use Rattle.basic_toml_tree.specs.declared.spot.Spot.TheVariants as spots
 use Rattle.basic_toml_tree.proofs.Nodes.NodesStand.{literal_given, plain_given, section_among, table_among, table_given}
 use Rattle.basic_toml_tree.proofs.ItemData.{plain_item, rows_item}
-use Rattle.basic_toml_tree.proofs.InlineTables.{raw_no_elements, rows_no_elements}
+use Rattle.basic_toml_tree.proofs.ItemData.{raw_no_elements, rows_no_elements}
 use Rattle.basic_toml_tree.proofs.node.Node.element_at.Goals as goal
 
 pub returns-in-Some : goal.returns-in-Some

@@ -3,7 +3,7 @@ use Rattle.basic_toml_plain.proofs.DataParts.{table_seen}
 use Rattle.basic_toml_tree.specs.Nodes.{spot_data}
 use Rattle.basic_toml_tree.specs.declared.spot.HeaderTable.TheVariants as tables
 use Rattle.basic_toml_tree.specs.declared.spot.Spot.TheVariants as spots
-use Rattle.basic_toml_tree.proofs.SectionData.{section_table_data}
+use Rattle.basic_toml_tree.proofs.TrieData.{section_table_data}
 use Rattle.basic_toml_tree.proofs.node.Node.to_value.Goals as goal
 
 pub returns-in_ok-plain_table-in-Table-Section-clause-ok : goal.returns-in_ok-plain_table-in-Table-Section-clause-ok

@@ -1,4 +1,4 @@
-use Rattle.basic_toml_tree.proofs.InlineTables.{item_is_table, raw_is_table}
+use Rattle.basic_toml_tree.proofs.ItemData.{item_is_table, raw_is_table}
 use Rattle.basic_toml_tree.proofs.spot.Spot.kind.Goals as goal
 
 pub returns-in-Rows-clause-kind : goal.returns-in-Rows-clause-kind
