@@ -49,5 +49,6 @@ block_size = 64
 abbrev pub most_blocks : ℕ
 most_blocks = 2 ^ 57
 
+-- each of these blocks has as many tables as a full one
 abbrev pub are_full : List SectionTables → Bool
 are_full bs = list_all (λ b. nat_eq (length (tables_in b)) block_size) bs

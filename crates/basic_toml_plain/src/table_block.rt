@@ -55,25 +55,7 @@ impl<'de> TableBlock<'de> {
         }
     }
 
-    /// One table, which takes few simple rows.
-    ///
-    /// # Errors
-    ///
-    /// `AllocError` where memory was refused. The rows stay then.
-    pub(crate) fn new(
-        alloc: Global,
-        rows: &mut Vec<Row<'de>>,
-        section: usize,
-    ) -> Result<TableBlock<'de>, AllocError>
-        requires { are_few_simple 0 rows.old.items ≡ true }
-        ensures table { IfOk result (λ block. block ≡ ([], (section, rows.old.items))) }
-        ensures taken { IfOk result (λ _. rows.new.items ≡ []) }
-        ensures refused { IfErr result (λ _. rows.new.items ≡ rows.old.items) }
-    {
-        TableBlock::empty(alloc).next(alloc, rows, section)
-    }
-
-    /// One table that begins the next block. It has as much room as this block takes.
+    /// One table that begins the next block, which takes few simple rows.
     ///
     /// # Errors
     ///
@@ -90,6 +72,7 @@ impl<'de> TableBlock<'de> {
         ensures refused { IfErr result (λ _. rows.new.items ≡ rows.old.items) }
     {
         let count = rows.len();
+        // As much room as this block takes, since blocks are often alike.
         let mut all = Vec::with_capacity(alloc, self.rows.len().max(count))?;
         let earlier = Vec::with_capacity(alloc, self.earlier.len())?;
         all.append(rows)?;

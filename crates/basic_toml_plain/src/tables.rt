@@ -10,7 +10,7 @@ use std::alloc::{AllocError, Global};
 use std::marker::Model;
 use std::mem;
 
-// So many tables stand in a block: its rows take at most some 64 KB.
+// So many tables stand in a block: its rows take at most 80 KB.
 const IN_BLOCK: usize = 64;
 
 // With more full blocks the number of a table might not be a `usize`. No memory is so large.
@@ -88,7 +88,7 @@ impl<'de> PlainTables<'de> {
     {
         let tables = PlainTables {
             full: Vec::new(alloc),
-            last: TableBlock::new(alloc, rows, section)?,
+            last: TableBlock::empty(alloc).next(alloc, rows, section)?,
         };
         Ok(Box::new(alloc, tables)?)
     }
