@@ -6,45 +6,23 @@ use basic_toml_read::sections;
 use std::alloc::Global;
 use std::test::Fail;
 
-// A line and a column, told from 1.
-fn shown(alloc: Global, line: usize, column: usize) -> Result<String, Fail> {
-    let mut shown = String::new(alloc);
-    write!(shown, "{}", line.saturating_add(1))?;
-    shown.push(':')?;
-    write!(shown, "{}", column.saturating_add(1))?;
-    Ok(shown)
-}
-
-fn place(alloc: Global, error: &Error) -> Result<String, Fail> {
-    match error.line_col() {
-        Some((line, column)) => shown(alloc, line, column),
-        None => Ok(String::from_str(alloc, "none")?),
-    }
-}
-
-fn origins(alloc: Global, text: &str, error: &Error) -> Result<String, Fail> {
-    let Some(origins) = error.origins(alloc, text)? else {
-        return Ok(String::from_str(alloc, "none")?);
-    };
-    let (line, column) = line_col(text, origins.origin);
-    let origin = shown(alloc, line, column)?;
-    let Some(other) = origins.other else {
-        return Ok(origin);
-    };
-    let (line, column) = line_col(text, other);
-    let other = shown(alloc, line, column)?;
-    let mut both = origin;
-    both.push_str(", ")?;
-    both.push_str(other.as_str())?;
-    Ok(both)
-}
-
-// The line and the column of an error's place, and those of its origins.
+// The line and the column of an error's place, and those of its origins, all from 1.
 fn places(alloc: Global, text: &str, error: Error) -> Result<(String, String), Fail> {
     let error = error.with_line(text);
-    let place = place(alloc, &error)?;
-    let origins = origins(alloc, text, &error)?;
-    Ok((place, origins))
+    let place = match error.line_col() {
+        Some((line, column)) => format!(in alloc; "{}:{}", line + 1, column + 1)?,
+        None => String::from_str(alloc, "none")?,
+    };
+    let Some(origins) = error.origins(alloc, text)? else {
+        return Ok((place, String::from_str(alloc, "none")?));
+    };
+    let (line, column) = line_col(text, origins.origin);
+    let mut found = format!(in alloc; "{}:{}", line + 1, column + 1)?;
+    if let Some(other) = origins.other {
+        let (line, column) = line_col(text, other);
+        write!(found, ", {}:{}", line + 1, column + 1)?;
+    }
+    Ok((place, found))
 }
 
 // What stands at a path of keys, and at the second element where an array does.
